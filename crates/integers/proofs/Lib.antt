@@ -1,0 +1,3 @@
+-- The laws of the crate `integers`.
+pub mod Differences
+pub mod Range

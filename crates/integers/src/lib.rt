@@ -1,0 +1,56 @@
+// Signed numbers at their edges: an i64 as an unsigned number, and sums and products that say when
+// they leave the range of an i64. Every argument is taken, the very ends of each type too.
+ghost use mathlib.Core.Path.{_≡_};
+ghost use lib.IntN.{pos};
+ghost use Rattle.integers.specs.Integers.{raised, sum, product};
+
+// What a checked operation answers: its value, or that no i64 holds it.
+pub enum Checked {
+    Fits(i64),
+    Overflow,
+}
+
+// x + 2^63, which is never below 0.
+pub fn bias(x: i64) -> u64
+    ensures { λ r. ⌜ r ≡ raised x ⌝ }
+{
+    if x >= 0 {
+        0x8000_0000_0000_0000 + (x as u64)
+    } else {
+        0x7fff_ffff_ffff_ffff - ((-1 - x) as u64)
+    }
+}
+
+// a + b.
+pub fn checked_add(a: i64, b: i64) -> Checked
+    ensures { λ r. ⌜ r ≡ sum a b ⌝ }
+{
+    if b >= 0 {
+        if a > 9223372036854775807 - b {
+            return Checked::Overflow;
+        }
+        return Checked::Fits(a + b);
+    }
+    if a < -9223372036854775808 - b {
+        return Checked::Overflow;
+    }
+    Checked::Fits(a + b)
+}
+
+// a × factor. The bounds are the largest and the least number whose product still fits.
+pub fn checked_mul(a: i64, factor: u32) -> Checked
+    ensures { λ r. ⌜ r ≡ product a (pos factor) ⌝ }
+{
+    if factor == 0 {
+        return Checked::Fits(0);
+    }
+    let largest = (0x7fff_ffff_ffff_ffff / (factor as u64)) as i64;
+    if a > largest {
+        return Checked::Overflow;
+    }
+    let least = -1 - ((0x8000_0000_0000_0000 / (factor as u64) - 1) as i64);
+    if a < least {
+        return Checked::Overflow;
+    }
+    Checked::Fits(a * (factor as i64))
+}
