@@ -6,6 +6,8 @@ use lib.IntN.{ℤ, pos, negsuc, _+ℤ_, _*ℤ_}
 use lib.Signed.{mag}
 use Rattle.integers.specs.declared.Checked.{Checked}
 use Rattle.integers.specs.declared.Checked.the-variants.{Fits, Overflow}
+use Rattle.integers.specs.declared.Natural.{Natural}
+use Rattle.integers.specs.declared.Natural.the-variants.{At, Below}
 
 -- z + 2^63, for a z that is not below -2^63
 unfoldable pub raised : ℤ → ℕ
@@ -26,3 +28,8 @@ sum a b = fitsIf (inI64 (a +ℤ b)) (a +ℤ b)
 
 unfoldable pub product : ℤ → ℤ → Checked
 product a b = fitsIf (inI64 (a *ℤ b)) (a *ℤ b)
+
+-- z as a natural number, or that it is below 0
+unfoldable pub naturalOf : ℤ → Natural
+naturalOf (pos n) = At n
+naturalOf (negsuc n) = Below

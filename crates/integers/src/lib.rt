@@ -2,7 +2,7 @@
 // they leave the range of an i64. Every argument is taken, the very ends of each type too.
 ghost use mathlib.Core.Path.{_≡_};
 ghost use lib.IntN.{pos};
-ghost use Rattle.integers.specs.Integers.{raised, sum, product};
+ghost use Rattle.integers.specs.Integers.{raised, sum, product, naturalOf};
 
 // What a checked operation answers: its value, or that no i64 holds it.
 pub enum Checked {
@@ -53,4 +53,20 @@ pub fn checked_mul(a: i64, factor: u32) -> Checked
         return Checked::Overflow;
     }
     Checked::Fits(a * (factor as i64))
+}
+
+// What an i64 is as an unsigned number.
+pub enum Natural {
+    At(u64),
+    Below,
+}
+
+// x, where it is not below 0.
+pub fn to_natural(x: i64) -> Natural
+    ensures { λ r. ⌜ r ≡ naturalOf x ⌝ }
+{
+    if x < 0 {
+        return Natural::Below;
+    }
+    Natural::At(x as u64)
 }
