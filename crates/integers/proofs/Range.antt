@@ -2,14 +2,14 @@
 -- Assumes nothing.
 use Prim.Native.Nat.{ℕ, zero, suc, _+_, _-_, _<_, _≤_}
 use mathlib.Core.Path.{_≡_, refl, sym, ap, ap₂, _∙_}
-use mathlib.Core.Bool.{Bool, true, false}
+use mathlib.Core.Bool.{Bool, true, false, not}
 use native.Mathlib.Omega.{arith}
-use lib.Dec.{ltb}
+use lib.Dec.{ltb, leb}
 use lib.IntN.{ℤ, pos, negsuc, subℕ, _+ℤ_, _-ℤ_, _*ℤ_}
 use lib.Signed.{mag, ltZ, leZ}
 use mir.Syntax.{w64}
 use mir.Val.{SFits}
-use borrow.Author.Tests.{ltb-true, ltb-false, lt-ltb, le-ltb, leb-true, leb-false}
+use borrow.Author.Tests.{ltb-true, ltb-false, lt-ltb, le-ltb, leb-true, leb-false, le-leb, lt-leb}
 use Rattle.integers.proofs.Differences.{untrue, is-pos, is-neg, Shape, up, down, shape, diff-eq, diff-add, diff-sub, diff-pos}
 use Rattle.integers.specs.Integers.{raised, inI64, fitsIf, sum, product}
 use Rattle.integers.specs.declared.Checked.{Checked}
@@ -61,13 +61,31 @@ le-no (pos a) (negsuc b) f g p = omega arith
 le-no (negsuc a) (pos b) f g p = untrue (sym p)
 le-no (negsuc a) (negsuc b) f g p = omega (arith, leb-false, f .sfits, g .sfits)
 
+-- one order by the other
+le-by-lt : (a b : ℕ) → leb a b ≡ not (ltb b a)
+le-by-lt a b = by (ltb b a) refl
+  where
+    by : (t : Bool) → ltb b a ≡ t → leb a b ≡ not t
+    by true p = lt-leb a b (ltb-true b a p)
+    by false p = le-leb a b (ltb-false b a p)
+
+pub leZ-by-ltZ : (a b : ℤ) → leZ a b ≡ not (ltZ b a)
+leZ-by-ltZ (pos a) (pos b) = le-by-lt a b
+leZ-by-ltZ (pos a) (negsuc b) = refl
+leZ-by-ltZ (negsuc a) (pos b) = refl
+leZ-by-ltZ (negsuc a) (negsuc b) = le-by-lt b a
+
+-- a difference of naturals that lie near each other
+pub diff-near : (a b c : ℕ) → a < b + c → b ≤ a + c → mag (subℕ a b) < c
+diff-near a b c h k = by (shape a b)
+  where
+    by : Shape a b → mag (subℕ a b) < c
+    by (up n e q) = rw q (omega arith)
+    by (down n e q) = rw q (omega arith)
+
 -- a difference of naturals within the range, and its raised number
 pub diff-fits : (a b : ℕ) → a < b + 9223372036854775808 → b ≤ a + 9223372036854775808 → SFits w64 (subℕ a b)
-diff-fits a b h k = by (shape a b)
-  where
-    by : Shape a b → SFits w64 (subℕ a b)
-    by (up n e q) = rw q (record { sfits = omega arith })
-    by (down n e q) = rw q (record { sfits = omega arith })
+diff-fits a b h k = record { sfits = diff-near a b 9223372036854775808 h k }
 
 pub diff-raised : (a b : ℕ) → b ≤ a + 9223372036854775808 → raised (subℕ a b) + b ≡ a + 9223372036854775808
 unfolding raised

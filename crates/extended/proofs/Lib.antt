@@ -1,0 +1,7 @@
+-- The laws and theorems of the crate `extended`.
+pub mod Counting
+pub mod Dates
+pub mod Outcomes
+pub mod Records
+pub mod Moments
+pub mod Adding

@@ -1,0 +1,4 @@
+-- The definitions of the crate `extended`, in reading order.
+pub mod Outcome
+pub mod Calendar
+pub mod Extended

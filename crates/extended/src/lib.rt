@@ -1,0 +1,583 @@
+// A date and time whose year may be as large as 2147485547, after the Rust's extended.rs.
+//
+// A record is accepted where `new` refuses none of its numbers. Every function takes any record and
+// any numbers: a record that `new` refuses gets `new`'s number, and every refusal is a number of the
+// table of answers (9 to 18 here), given in the order of the tests.
+ghost use mathlib.Core.Path.{_≡_};
+ghost use Prim.Native.Nat.{_+_, _-_, _*_, _<_, _≤_};
+ghost use lib.IntN.{pos, _-ℤ_};
+ghost use Rattle.extended.specs.Outcome.{Outcome, accepted, number};
+ghost use Rattle.extended.specs.Calendar.{leap, monthDays, daysBeforeYear, daysOfMonths, dayNumber, yearDays, civil};
+ghost use Rattle.extended.specs.Extended.{madeOf, secondsOf, countOf, make, date, time, dateOf, timeOf, testDate, testTime, testOffset, test, testYear, accept, clockSeconds, moment, unixSeconds, fromClock, fromUnixSeconds, withDate, withTime, withOffset, carried, addSeconds, addUnits, addDays, addHours, addMinutes, clamp, addYears, addMonths, dayOfYear, weekdaySunday0, weekdayMonday0};
+use integers::Checked;
+use integers::Natural;
+
+// The largest year that is accepted.
+pub const GNU_MAX_YEAR: u32 = 2147485547;
+
+const SECONDS_PER_DAY: u32 = 86400;
+
+#[repr(C)]
+pub struct ExtendedDateTime {
+    pub year: u32,
+    pub month: u8,
+    pub day: u8,
+    pub hour: u8,
+    pub minute: u8,
+    pub second: u8,
+    pub nanosecond: u32,
+    // Seconds east of UTC.
+    pub offset_seconds: i32,
+}
+
+pub struct DateParts {
+    pub year: u32,
+    pub month: u8,
+    pub day: u8,
+}
+
+pub struct TimeParts {
+    pub hour: u8,
+    pub minute: u8,
+    pub second: u8,
+    pub nanosecond: u32,
+}
+
+// A record, or the number of its refusal.
+pub enum Made {
+    Record(ExtendedDateTime),
+    Refused(u32),
+}
+
+// A moment in seconds, or the number of the record's refusal.
+pub enum UnixSeconds {
+    At(i64),
+    Refused(u32),
+}
+
+// A day of a year or of a week, or the number of the record's refusal.
+pub enum DayCount {
+    Days(u32),
+    Refused(u32),
+}
+
+impl ExtendedDateTime {
+    pub fn new(date: DateParts, time: TimeParts, offset_seconds: i32) -> Made
+        ensures { λ r. ⌜ madeOf r ≡ accept (make date time «offset_seconds») ⌝ }
+    {
+        let made = from_parts(date, time, offset_seconds);
+        let refusal = made.refusal();
+        if refusal > 0 {
+            return Made::Refused(refusal);
+        }
+        Made::Record(made)
+    }
+
+    pub fn from_unix_seconds(unix_seconds: i64, nanosecond: u32, offset_seconds: i32) -> Made
+        ensures { λ r. ⌜ madeOf r ≡ fromUnixSeconds «unix_seconds» nanosecond «offset_seconds» ⌝ }
+    {
+        if nanosecond > 999999999 {
+            return Made::Refused(16);
+        }
+        let refusal = offset_refusal(offset_seconds);
+        if refusal > 0 {
+            return Made::Refused(refusal);
+        }
+        let Checked::Fits(local) = integers::checked_add(unix_seconds, offset_seconds as i64) else {
+            return Made::Refused(18);
+        };
+        // 2^63 less the seconds from 0000-01-01 to 1970-01-01.
+        let raised = integers::bias(local);
+        if raised < 9223371974687556608 {
+            return Made::Refused(10);
+        }
+        from_clock(raised - 9223371974687556608, nanosecond, offset_seconds)
+    }
+
+    pub fn with_date(self, year: u32, month: u8, day: u8) -> Made
+        ensures { λ r. ⌜ madeOf r ≡ withDate self (date year month day) ⌝ }
+    {
+        let refusal = self.refusal();
+        if refusal > 0 {
+            return Made::Refused(refusal);
+        }
+        ExtendedDateTime::new(
+            DateParts { year, month, day },
+            self.time(),
+            self.offset_seconds,
+        )
+    }
+
+    pub fn with_time(self, hour: u8, minute: u8, second: u8, nanosecond: u32) -> Made
+        ensures { λ r. ⌜ madeOf r ≡ withTime self (time hour minute second nanosecond) ⌝ }
+    {
+        let refusal = self.refusal();
+        if refusal > 0 {
+            return Made::Refused(refusal);
+        }
+        ExtendedDateTime::new(
+            self.date(),
+            TimeParts {
+                hour,
+                minute,
+                second,
+                nanosecond,
+            },
+            self.offset_seconds,
+        )
+    }
+
+    pub fn with_offset(self, offset_seconds: i32) -> Made
+        ensures { λ r. ⌜ madeOf r ≡ withOffset self «offset_seconds» ⌝ }
+    {
+        let refusal = self.refusal();
+        if refusal > 0 {
+            return Made::Refused(refusal);
+        }
+        ExtendedDateTime::new(self.date(), self.time(), offset_seconds)
+    }
+
+    pub fn checked_add_days(self, days: i64) -> Made
+        ensures { λ r. ⌜ madeOf r ≡ addDays self days ⌝ }
+    {
+        self.checked_add_units(days, SECONDS_PER_DAY)
+    }
+
+    pub fn checked_add_hours(self, hours: i64) -> Made
+        ensures { λ r. ⌜ madeOf r ≡ addHours self hours ⌝ }
+    {
+        self.checked_add_units(hours, 3600)
+    }
+
+    pub fn checked_add_minutes(self, minutes: i64) -> Made
+        ensures { λ r. ⌜ madeOf r ≡ addMinutes self minutes ⌝ }
+    {
+        self.checked_add_units(minutes, 60)
+    }
+
+    // `count` units of `worth` seconds each.
+    fn checked_add_units(self, count: i64, worth: u32) -> Made
+        ensures { λ r. ⌜ madeOf r ≡ addUnits worth self count ⌝ }
+    {
+        let refusal = self.refusal();
+        if refusal > 0 {
+            return Made::Refused(refusal);
+        }
+        let Checked::Fits(seconds) = integers::checked_mul(count, worth) else {
+            return Made::Refused(18);
+        };
+        self.checked_add_seconds(seconds, 0)
+    }
+
+    pub fn checked_add_seconds(self, delta_seconds: i64, delta_nanoseconds: u32) -> Made
+        ensures { λ r. ⌜ madeOf r ≡ addSeconds self «delta_seconds» «delta_nanoseconds» ⌝ }
+    {
+        let refusal = self.refusal();
+        if refusal > 0 {
+            return Made::Refused(refusal);
+        }
+        let Checked::Fits(unix) = integers::checked_add(self.moment(), delta_seconds) else {
+            return Made::Refused(18);
+        };
+        let nanosecond = self.nanosecond as u64 + delta_nanoseconds as u64;
+        if nanosecond > 4294967295 {
+            return Made::Refused(18);
+        }
+        carry(unix, nanosecond as u32, self.offset_seconds)
+    }
+
+    pub fn checked_add_years(self, years: i32) -> Made
+        ensures { λ r. ⌜ madeOf r ≡ addYears self years ⌝ }
+    {
+        let refusal = self.refusal();
+        if refusal > 0 {
+            return Made::Refused(refusal);
+        }
+        let Checked::Fits(sum) = integers::checked_add(self.year as i64, years as i64) else {
+            return Made::Refused(18);
+        };
+        let Natural::At(year) = integers::to_natural(sum) else {
+            return Made::Refused(10);
+        };
+        self.clamped(year, self.month)
+    }
+
+    pub fn checked_add_months(self, months: i32) -> Made
+        ensures { λ r. ⌜ madeOf r ≡ addMonths self months ⌝ }
+    {
+        let refusal = self.refusal();
+        if refusal > 0 {
+            return Made::Refused(refusal);
+        }
+        let before = months_before(self.year, self.month);
+        let Checked::Fits(sum) = integers::checked_add(before, months as i64) else {
+            return Made::Refused(18);
+        };
+        let Natural::At(total) = integers::to_natural(sum) else {
+            return Made::Refused(10);
+        };
+        self.clamped(total / 12, (total % 12 + 1) as u8)
+    }
+
+    // The same day of another month, or its last day and as many days more as were lost.
+    fn clamped(self, year: u64, month: u8) -> Made
+        ensures { λ r. ⌜ madeOf r ≡ clamp self year month ⌝ }
+    {
+        let refusal = year_refusal(year);
+        if refusal > 0 {
+            return Made::Refused(refusal);
+        }
+        let max_day = days_in_month(year as u32, month);
+        if self.day <= max_day {
+            return self.with_date(year as u32, month, self.day);
+        }
+        let next = self.with_date(year as u32, month, max_day);
+        let Made::Record(next) = next else {
+            return next;
+        };
+        next.checked_add_days((self.day - max_day) as i64)
+    }
+
+    pub fn day_of_year(self) -> DayCount
+        ensures { λ r. ⌜ countOf r ≡ dayOfYear self ⌝ }
+    {
+        let refusal = self.refusal();
+        if refusal > 0 {
+            return DayCount::Refused(refusal);
+        }
+        DayCount::Days(days_before_month(self.year, self.month) + self.day as u32)
+    }
+
+    // The seconds from 1970-01-01 00:00:00 at offset 0.
+    pub fn unix_seconds(self) -> UnixSeconds
+        ensures { λ r. ⌜ secondsOf r ≡ unixSeconds self ⌝ }
+    {
+        let refusal = self.refusal();
+        if refusal > 0 {
+            return UnixSeconds::Refused(refusal);
+        }
+        UnixSeconds::At(self.moment())
+    }
+
+    // 0 for Sunday to 6 for Saturday.
+    pub fn weekday_sunday0(self) -> DayCount
+        ensures { λ r. ⌜ countOf r ≡ weekdaySunday0 self ⌝ }
+    {
+        let refusal = self.refusal();
+        if refusal > 0 {
+            return DayCount::Refused(refusal);
+        }
+        DayCount::Days(((self.days() + 6) % 7) as u32)
+    }
+
+    // 0 for Monday to 6 for Sunday.
+    pub fn weekday_monday0(self) -> DayCount
+        ensures { λ r. ⌜ countOf r ≡ weekdayMonday0 self ⌝ }
+    {
+        let refusal = self.refusal();
+        if refusal > 0 {
+            return DayCount::Refused(refusal);
+        }
+        DayCount::Days(((self.days() + 5) % 7) as u32)
+    }
+
+    // ---- what the functions above share
+
+    // The number of the first test that the record fails, 0 where it is accepted.
+    fn refusal(self) -> u32
+        ensures { λ r. ⌜ r ≡ number (test self) ⌝ }
+    {
+        let refusal = date_refusal(self.date());
+        if refusal > 0 {
+            return refusal;
+        }
+        let refusal = time_refusal(self.time());
+        if refusal > 0 {
+            return refusal;
+        }
+        offset_refusal(self.offset_seconds)
+    }
+
+    fn date(self) -> DateParts
+        ensures { λ r. ⌜ r ≡ dateOf self ⌝ }
+    {
+        DateParts {
+            year: self.year,
+            month: self.month,
+            day: self.day,
+        }
+    }
+
+    fn time(self) -> TimeParts
+        ensures { λ r. ⌜ r ≡ timeOf self ⌝ }
+    {
+        TimeParts {
+            hour: self.hour,
+            minute: self.minute,
+            second: self.second,
+            nanosecond: self.nanosecond,
+        }
+    }
+
+    // The day number of an accepted record's date.
+    fn days(self) -> u64
+        requires { ⌜ test self ≡ accepted tt ⌝ }
+        ensures { λ r. ⌜ r ≡ dayNumber (self .year) (self .month) (self .day) ⌝ }
+    {
+        days_from_civil(self.year, self.month, self.day)
+    }
+
+    // The moment of an accepted record.
+    fn moment(self) -> i64
+        requires { ⌜ test self ≡ accepted tt ⌝ }
+        ensures { λ r. ⌜ r ≡ moment self ⌝ }
+    {
+        let clock = self.days() * 86400
+            + (self.hour as u64) * 3600
+            + (self.minute as u64) * 60
+            + self.second as u64;
+        since_epoch(clock, self.offset_seconds)
+    }
+}
+
+// The one place where a record is put together.
+fn from_parts(date: DateParts, time: TimeParts, offset_seconds: i32) -> ExtendedDateTime
+    ensures { λ r. ⌜ r ≡ make date time «offset_seconds» ⌝ }
+{
+    ExtendedDateTime {
+        year: date.year,
+        month: date.month,
+        day: date.day,
+        hour: time.hour,
+        minute: time.minute,
+        second: time.second,
+        nanosecond: time.nanosecond,
+        offset_seconds: offset_seconds,
+    }
+}
+
+fn date_refusal(date: DateParts) -> u32
+    ensures { λ r. ⌜ r ≡ number (testDate date) ⌝ }
+{
+    if date.year > GNU_MAX_YEAR {
+        return 9;
+    }
+    if date.month < 1 {
+        return 11;
+    }
+    if date.month > 12 {
+        return 11;
+    }
+    if date.day < 1 {
+        return 12;
+    }
+    if date.day > days_in_month(date.year, date.month) {
+        return 12;
+    }
+    0
+}
+
+fn time_refusal(time: TimeParts) -> u32
+    ensures { λ r. ⌜ r ≡ number (testTime time) ⌝ }
+{
+    if time.hour > 23 {
+        return 13;
+    }
+    if time.minute > 59 {
+        return 14;
+    }
+    if time.second > 59 {
+        return 15;
+    }
+    if time.nanosecond > 999999999 {
+        return 16;
+    }
+    0
+}
+
+fn offset_refusal(offset_seconds: i32) -> u32
+    ensures { λ r. ⌜ r ≡ number (testOffset «offset_seconds») ⌝ }
+{
+    if offset_seconds < -86400 {
+        return 17;
+    }
+    if offset_seconds > 86400 {
+        return 17;
+    }
+    0
+}
+
+// The Rust's quirk: a year that no u32 holds is refused as a negative one is.
+fn year_refusal(year: u64) -> u32
+    ensures { λ r. ⌜ r ≡ number (testYear year) ⌝ }
+{
+    if year > 4294967295 {
+        return 10;
+    }
+    if year > 2147485547 {
+        return 9;
+    }
+    0
+}
+
+// The record whose own clock is `clock` seconds past 0000-01-01 00:00:00.
+fn from_clock(clock: u64, nanosecond: u32, offset_seconds: i32) -> Made
+    ensures { λ r. ⌜ madeOf r ≡ fromClock clock nanosecond «offset_seconds» ⌝ }
+{
+    let civil = civil_from_days(clock / 86400);
+    let refusal = year_refusal(civil.year);
+    if refusal > 0 {
+        return Made::Refused(refusal);
+    }
+    let date = DateParts {
+        year: civil.year as u32,
+        month: civil.month,
+        day: civil.day,
+    };
+    let time = TimeParts {
+        hour: (clock % 86400 / 3600) as u8,
+        minute: (clock % 3600 / 60) as u8,
+        second: (clock % 60) as u8,
+        nanosecond: nanosecond,
+    };
+    Made::Record(from_parts(date, time, offset_seconds))
+}
+
+// At most one second is carried out of the nanoseconds.
+fn carry(unix: i64, nanosecond: u32, offset_seconds: i32) -> Made
+    ensures { λ r. ⌜ madeOf r ≡ carried unix nanosecond «offset_seconds» ⌝ }
+{
+    if nanosecond < 1000000000 {
+        return ExtendedDateTime::from_unix_seconds(unix, nanosecond, offset_seconds);
+    }
+    let Checked::Fits(next) = integers::checked_add(unix, 1) else {
+        return Made::Refused(18);
+    };
+    ExtendedDateTime::from_unix_seconds(next, nanosecond - 1000000000, offset_seconds)
+}
+
+// The moment of a clock that stands at an offset.
+fn since_epoch(clock: u64, offset_seconds: i32) -> i64
+    requires { ⌜ clock < 4611686018427387904 ⌝ }
+    ensures { λ r. ⌜ r ≡ pos clock -ℤ «offset_seconds» -ℤ pos 62167219200 ⌝ }
+{
+    clock as i64 - offset_seconds as i64 - 62167219200
+}
+
+// The months from 0000-01 to a month.
+fn months_before(year: u32, month: u8) -> i64
+    requires { ⌜ 1 ≤ month ⌝ }
+    ensures { λ r. ⌜ r ≡ pos (year * 12 + (month - 1)) ⌝ }
+{
+    ((year as u64) * 12 + (month - 1) as u64) as i64
+}
+
+pub fn is_leap_year(year: u32) -> bool
+    ensures { λ r. ⌜ r ≡ leap year ⌝ }
+{
+    (year % 4 == 0 && year % 100 != 0) || (year % 400 == 0)
+}
+
+const MONTH_DAYS: [u8; 12] = [31, 28, 31, 30, 31, 30, 31, 31, 30, 31, 30, 31];
+
+pub fn days_in_month(year: u32, month: u8) -> u8
+    ensures { λ r. ⌜ r ≡ monthDays year month ⌝ }
+{
+    if month < 1 {
+        return 0;
+    }
+    if month > 12 {
+        return 0;
+    }
+    if month == 2 {
+        if is_leap_year(year) {
+            return 29;
+        }
+    }
+    let i = (month - 1) as usize;
+    MONTH_DAYS[i]
+}
+
+// The days of all years before `year`; of the years that 400 divides, one in four of those that 100 does.
+fn days_before_year(year: u64) -> u64
+    requires { ⌜ year < 1099511627776 ⌝ }
+    ensures { λ r. ⌜ r ≡ daysBeforeYear year ⌝ }
+{
+    let centuries = (year + 99) / 100;
+    365 * year + (year + 3) / 4 - centuries + (centuries + 3) / 4
+}
+
+// The days of the months before each, in a year of 365 days.
+const DAYS_BEFORE_MONTH: [u16; 12] = [0, 31, 59, 90, 120, 151, 181, 212, 243, 273, 304, 334];
+
+// The days of the months of `year` before `month`.
+fn days_before_month(year: u32, month: u8) -> u32
+    requires { ⌜ (1 ≤ month) × (month ≤ 12) ⌝ }
+    ensures { λ r. ⌜ r ≡ daysOfMonths year (month - 1) ⌝ }
+{
+    let i = (month - 1) as usize;
+    let days = DAYS_BEFORE_MONTH[i] as u32;
+    if month > 2 {
+        if is_leap_year(year) {
+            return days + 1;
+        }
+    }
+    days
+}
+
+// The day number of a date.
+fn days_from_civil(year: u32, month: u8, day: u8) -> u64
+    requires { ⌜ (1 ≤ month) × (month ≤ 12) × (1 ≤ day) ⌝ }
+    ensures { λ r. ⌜ r ≡ dayNumber year month day ⌝ }
+{
+    days_before_year(year as u64) + days_before_month(year, month) as u64 + (day - 1) as u64
+}
+
+// A date whose year may be any.
+pub struct Civil {
+    pub year: u64,
+    pub month: u8,
+    pub day: u8,
+}
+
+// The date of a day number: the block of 400 years that holds it, the year in the block, the month in the year.
+fn civil_from_days(days: u64) -> Civil
+    ensures { λ r. ⌜ r ≡ civil days ⌝ }
+{
+    let day_of_block = (days % 146097) as u32;
+    let year_of_block = year_in_block(day_of_block);
+    let day_of_year = day_of_block - days_before_year(year_of_block as u64) as u32;
+    let month = month_in_year(year_of_block, day_of_year);
+    Civil {
+        year: days / 146097 * 400 + year_of_block as u64,
+        month: month,
+        day: (day_of_year - days_before_month(year_of_block, month) + 1) as u8,
+    }
+}
+
+// The year of a block of 400 that holds a day of the block. No year has more than 366 days, and the years of a block are so
+// few that the quotient is at most one too small.
+fn year_in_block(day: u32) -> u32
+    requires { ⌜ day < 146097 ⌝ }
+    ensures { λ r. ⌜ (daysBeforeYear r ≤ day) × (day < daysBeforeYear (r + 1)) ⌝ }
+{
+    let year = day / 366;
+    if days_before_year(year as u64 + 1) as u32 <= day {
+        return year + 1;
+    }
+    year
+}
+
+// The month that holds a day of a year; in the same way, since no month has more than 32 days.
+fn month_in_year(year: u32, day: u32) -> u8
+    requires { ⌜ day < yearDays year ⌝ }
+    ensures { λ r. ⌜ (1 ≤ r) × (r ≤ 12) × (daysOfMonths year (r - 1) ≤ day) × (day < daysOfMonths year r) ⌝ }
+{
+    let month = (day / 32 + 1) as u8;
+    if month < 12 {
+        if days_before_month(year, month + 1) <= day {
+            return month + 1;
+        }
+    }
+    month
+}
