@@ -64,7 +64,7 @@ abbrev pub timeOf : ExtendedDateTime → TimeParts
 timeOf r = time (r .hour) (r .minute) (r .second) (r .nanosecond)
 
 -- the blank record: "eight zeros"
-unfoldable pub blank : ExtendedDateTime
+abbrev pub blank : ExtendedDateTime
 blank = make (date 0 0 0) (time 0 0 0 0) (pos 0)
 
 -- "2147485547 is the last year"

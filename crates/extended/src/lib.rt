@@ -8,7 +8,7 @@ ghost use Prim.Native.Nat.{_+_, _-_, _*_, _<_, _≤_};
 ghost use lib.IntN.{pos, _-ℤ_};
 ghost use Rattle.extended.specs.Outcome.{Outcome, accepted, number};
 ghost use Rattle.extended.specs.Calendar.{leap, monthDays, daysBeforeYear, daysOfMonths, dayNumber, yearDays, civil};
-ghost use Rattle.extended.specs.Extended.{madeOf, secondsOf, countOf, make, date, time, dateOf, timeOf, testDate, testTime, testOffset, test, testYear, accept, clockSeconds, moment, unixSeconds, fromClock, fromUnixSeconds, withDate, withTime, withOffset, carried, addSeconds, addUnits, addDays, addHours, addMinutes, clamp, addYears, addMonths, dayOfYear, weekdaySunday0, weekdayMonday0};
+ghost use Rattle.extended.specs.Extended.{madeOf, secondsOf, countOf, make, blank, date, time, dateOf, timeOf, testDate, testTime, testOffset, test, testYear, accept, clockSeconds, moment, unixSeconds, fromClock, fromUnixSeconds, withDate, withTime, withOffset, carried, addSeconds, addUnits, addDays, addHours, addMinutes, clamp, addYears, addMonths, dayOfYear, weekdaySunday0, weekdayMonday0};
 use integers::Checked;
 use integers::Natural;
 
@@ -71,6 +71,24 @@ impl ExtendedDateTime {
             return Made::Refused(refusal);
         }
         Made::Record(made)
+    }
+
+    // Eight zeros: the record of a refusal.
+    pub fn blank() -> ExtendedDateTime
+        ensures { λ r. ⌜ r ≡ blank ⌝ }
+    {
+        let date = DateParts {
+            year: 0,
+            month: 0,
+            day: 0,
+        };
+        let time = TimeParts {
+            hour: 0,
+            minute: 0,
+            second: 0,
+            nanosecond: 0,
+        };
+        from_parts(date, time, 0)
     }
 
     pub fn from_unix_seconds(unix_seconds: i64, nanosecond: u32, offset_seconds: i32) -> Made

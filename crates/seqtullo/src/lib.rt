@@ -1,0 +1,185 @@
+// The library as hosts call it: every function takes any arguments, answers by a number of the table
+// of answers, and a refusal carries the blank record, or 0 where a number was wanted.
+ghost use mathlib.Core.Path.{_≡_};
+ghost use Rattle.extended.specs.Calendar.{monthDays};
+ghost use Rattle.extended.specs.Extended.{madeOf, secondsOf, countOf, make, date, time, accept, fromUnixSeconds, unixSeconds, addDays, addHours, addMinutes, addSeconds, addYears, addMonths, weekdayMonday0, dayOfYear};
+ghost use Rattle.seqtullo.specs.Hosts.{recordAnswer, momentAnswer, numberAnswer};
+use extended::DateParts;
+use extended::DayCount;
+use extended::ExtendedDateTime;
+use extended::Made;
+use extended::TimeParts;
+use extended::UnixSeconds;
+
+pub type Record = ExtendedDateTime;
+
+// A record under number 0, or a refusal with its number, its place and the blank record.
+#[repr(C)]
+pub struct Answer {
+    pub number: u32,
+    pub place: u32,
+    pub record: Record,
+}
+
+#[repr(C)]
+pub struct Moment {
+    pub number: u32,
+    pub seconds: i64,
+}
+
+#[repr(C)]
+pub struct Number {
+    pub number: u32,
+    pub value: u32,
+}
+
+fn record_answer(made: Made) -> Answer
+    ensures { λ r. ⌜ r ≡ recordAnswer (madeOf made) ⌝ }
+{
+    match made {
+        Made::Record(record) => Answer {
+            number: 0,
+            place: 0,
+            record: record,
+        },
+        Made::Refused(number) => Answer {
+            number: number,
+            place: 0,
+            record: ExtendedDateTime::blank(),
+        },
+    }
+}
+
+fn number_answer(count: DayCount) -> Number
+    ensures { λ r. ⌜ r ≡ numberAnswer (countOf count) ⌝ }
+{
+    match count {
+        DayCount::Days(days) => Number {
+            number: 0,
+            value: days,
+        },
+        DayCount::Refused(number) => Number {
+            number: number,
+            value: 0,
+        },
+    }
+}
+
+#[no_mangle]
+pub extern "C" fn seqtullo_new(
+    year: u32,
+    month: u8,
+    day: u8,
+    hour: u8,
+    minute: u8,
+    second: u8,
+    nanosecond: u32,
+    offset_seconds: i32,
+) -> Answer
+    ensures { λ r. ⌜ r ≡ recordAnswer (accept (make (date year month day) (time hour minute second nanosecond) «offset_seconds»)) ⌝ }
+{
+    let date = DateParts { year, month, day };
+    let time = TimeParts {
+        hour,
+        minute,
+        second,
+        nanosecond,
+    };
+    record_answer(ExtendedDateTime::new(date, time, offset_seconds))
+}
+
+#[no_mangle]
+pub extern "C" fn seqtullo_from_unix_seconds(
+    unix_seconds: i64,
+    nanosecond: u32,
+    offset_seconds: i32,
+) -> Answer
+    ensures { λ r. ⌜ r ≡ recordAnswer (fromUnixSeconds «unix_seconds» nanosecond «offset_seconds») ⌝ }
+{
+    record_answer(ExtendedDateTime::from_unix_seconds(
+        unix_seconds,
+        nanosecond,
+        offset_seconds,
+    ))
+}
+
+#[no_mangle]
+pub extern "C" fn seqtullo_unix_seconds(record: Record) -> Moment
+    ensures { λ r. ⌜ r ≡ momentAnswer (unixSeconds «record») ⌝ }
+{
+    let moment = record.unix_seconds();
+    match moment {
+        UnixSeconds::At(seconds) => Moment {
+            number: 0,
+            seconds: seconds,
+        },
+        UnixSeconds::Refused(number) => Moment {
+            number: number,
+            seconds: 0,
+        },
+    }
+}
+
+#[no_mangle]
+pub extern "C" fn seqtullo_add_days(record: Record, days: i64) -> Answer
+    ensures { λ r. ⌜ r ≡ recordAnswer (addDays «record» days) ⌝ }
+{
+    record_answer(record.checked_add_days(days))
+}
+
+#[no_mangle]
+pub extern "C" fn seqtullo_add_hours(record: Record, hours: i64) -> Answer
+    ensures { λ r. ⌜ r ≡ recordAnswer (addHours «record» hours) ⌝ }
+{
+    record_answer(record.checked_add_hours(hours))
+}
+
+#[no_mangle]
+pub extern "C" fn seqtullo_add_minutes(record: Record, minutes: i64) -> Answer
+    ensures { λ r. ⌜ r ≡ recordAnswer (addMinutes «record» minutes) ⌝ }
+{
+    record_answer(record.checked_add_minutes(minutes))
+}
+
+#[no_mangle]
+pub extern "C" fn seqtullo_add_seconds(record: Record, seconds: i64, nanoseconds: u32) -> Answer
+    ensures { λ r. ⌜ r ≡ recordAnswer (addSeconds «record» seconds nanoseconds) ⌝ }
+{
+    record_answer(record.checked_add_seconds(seconds, nanoseconds))
+}
+
+#[no_mangle]
+pub extern "C" fn seqtullo_add_years(record: Record, years: i32) -> Answer
+    ensures { λ r. ⌜ r ≡ recordAnswer (addYears «record» years) ⌝ }
+{
+    record_answer(record.checked_add_years(years))
+}
+
+#[no_mangle]
+pub extern "C" fn seqtullo_add_months(record: Record, months: i32) -> Answer
+    ensures { λ r. ⌜ r ≡ recordAnswer (addMonths «record» months) ⌝ }
+{
+    record_answer(record.checked_add_months(months))
+}
+
+// 0 for Monday to 6 for Sunday.
+#[no_mangle]
+pub extern "C" fn seqtullo_weekday(record: Record) -> Number
+    ensures { λ r. ⌜ r ≡ numberAnswer (weekdayMonday0 «record») ⌝ }
+{
+    number_answer(record.weekday_monday0())
+}
+
+#[no_mangle]
+pub extern "C" fn seqtullo_day_of_year(record: Record) -> Number
+    ensures { λ r. ⌜ r ≡ numberAnswer (dayOfYear «record») ⌝ }
+{
+    number_answer(record.day_of_year())
+}
+
+#[no_mangle]
+pub extern "C" fn seqtullo_days_in_month(year: u32, month: u8) -> u8
+    ensures { λ r. ⌜ r ≡ monthDays year month ⌝ }
+{
+    extended::days_in_month(year, month)
+}
