@@ -96,11 +96,7 @@ pub extern "C" fn seqtullo_from_unix_seconds(
 ) -> Answer
     ensures { λ r. ⌜ r ≡ recordAnswer (fromUnixSeconds «unix_seconds» nanosecond «offset_seconds») ⌝ }
 {
-    record_answer(ExtendedDateTime::from_unix_seconds(
-        unix_seconds,
-        nanosecond,
-        offset_seconds,
-    ))
+    record_answer(ExtendedDateTime::from_unix_seconds(unix_seconds, nanosecond, offset_seconds))
 }
 
 #[no_mangle]
