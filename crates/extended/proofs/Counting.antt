@@ -9,6 +9,7 @@ use native.Mathlib.Nat.{le-of-eq, add-suc, div-div-eq-div-mul, add-mul-div-left}
 use native.Mathlib.Numerals.{add-one}
 use lib.Dec.{eqb, ltb, leb}
 use lib.ListN.{getD, List·getD-eq-default}
+use mir.Val.{boolByte}
 use borrow.Author.Tests.{eqb-true, eqb-false, eq-eqb, ne-eqb, leb-true, ltb-true, ltb-false}
 use Rattle.integers.proofs.Differences.{untrue}
 use Rattle.extended.specs.Calendar.{leap, yearDays, daysBeforeYear, monthTable, monthDays, daysOfMonths, dayNumber, nextWeekday, weekday}
@@ -25,6 +26,10 @@ and-right false b p = untrue p
 and-false : (b : Bool) → (b && false) ≡ false
 and-false true = refl
 and-false false = refl
+
+pub byte-small : (b : Bool) → boolByte b ≤ 1
+byte-small true = omega arith
+byte-small false = omega arith
 
 -- what holds of each number below n, by one computed test
 abbrev pub every : ℕ → (ℕ → Bool) → Bool
@@ -199,7 +204,7 @@ month-at m h = let e : m ≡ suc (m - 1) = omega arith in ap (λ (n : ℕ). getD
 lawful : ℕ → Bool
 lawful k = leb 28 (getD monthTable k 0) && leb (getD monthTable k 0) 31
 
-table-bounds : (m : ℕ) → 1 ≤ m → m ≤ 12 → (28 ≤ getD (0 ∷ monthTable) m 0) × (getD (0 ∷ monthTable) m 0 ≤ 31)
+pub table-bounds : (m : ℕ) → 1 ≤ m → m ≤ 12 → (28 ≤ getD (0 ∷ monthTable) m 0) × (getD (0 ∷ monthTable) m 0 ≤ 31)
 unfolding lawful
 table-bounds m h k =
     let x = getD monthTable (m - 1) 0 in
@@ -258,7 +263,7 @@ pub months-none : (y : ℕ) → daysOfMonths y 0 ≡ 0
 unfolding daysOfMonths
 months-none y = refl
 
--- the days before a month are a number of a table, and one more behind February of a leap year
+-- the days before a month, by whether the year is a leap year
 monthsIf : Bool → ℕ → ℕ
 monthsIf b zero = 0
 monthsIf b (suc k) = monthsIf b k + cond (eqb (suc k) 2 && b) 29 (getD (0 ∷ monthTable) (suc k) 0)
@@ -272,31 +277,154 @@ months-if y (suc k) = ap (λ (n : ℕ). n + cond (eqb (suc k) 2 && leap y) 29 (g
 pub months-block : (k y m : ℕ) → daysOfMonths (k * 400 + y) m ≡ daysOfMonths y m
 months-block k y m = months-if (k * 400 + y) m ∙ ap (λ (b : Bool). monthsIf b m) (leap-block k y) ∙ sym (months-if y m)
 
-abbrev pub cumulated : List ℕ
-cumulated = 0 ∷ 31 ∷ 59 ∷ 90 ∷ 120 ∷ 151 ∷ 181 ∷ 212 ∷ 243 ∷ 273 ∷ 304 ∷ 334 ∷ []
+-- months on a line: with two days more for February, or one in a leap year, month m begins (367 m - 362) / 12 days after the year
+abbrev pub line : ℕ → ℕ
+line m = (367 * m - 362) / 12
 
-summed : Bool → ℕ → Bool
-summed b k = eqb (monthsIf b k) (getD cumulated k 0 + cond (ltb 1 k && b) 1 0)
+abbrev pub shortened : Bool → ℕ → ℕ
+shortened b m = boolByte (ltb 2 m) * (2 - boolByte b)
 
-pub months-cumulated : (y k : ℕ) → k < 12 → daysOfMonths y k ≡ getD cumulated k 0 + cond (ltb 1 k && leap y) 1 0
-unfolding summed monthsIf
-months-cumulated y k h = months-if y k ∙ by (leap y)
+on-line : Bool → ℕ → Bool
+on-line b k = eqb (monthsIf b k + shortened b (k + 1)) (line (k + 1))
+
+pub months-line : (b : Bool) (y m : ℕ) → b ≡ leap y → 1 ≤ m → m ≤ 12 → daysOfMonths y (m - 1) + shortened b m ≡ line m
+unfolding on-line monthsIf
+months-line b y m l h k =
+    let e : m - 1 + 1 ≡ m = omega arith in
+    let t : daysOfMonths y (m - 1) ≡ monthsIf b (m - 1) = months-if y (m - 1) ∙ ap (λ (x : Bool). monthsIf x (m - 1)) (sym l) in
+    let q : on-line b (m - 1) ≡ true = by b (m - 1) (omega arith) in
+    ap (λ (n : ℕ). n + shortened b m) t ∙ (rw e at (eqb-true (monthsIf b (m - 1) + shortened b (m - 1 + 1)) (line (m - 1 + 1)) q))
   where
-    by : (b : Bool) → monthsIf b k ≡ getD cumulated k 0 + cond (ltb 1 k && b) 1 0
-    by true = eqb-true _ _ (each 12 (summed true) refl k h)
-    by false = eqb-true _ _ (each 12 (summed false) refl k h)
+    by : (b : Bool) (k : ℕ) → k < 12 → on-line b k ≡ true
+    by true k h = each 12 (on-line true) refl k h
+    by false k h = each 12 (on-line false) refl k h
 
--- two months on, 32 days for each month but one have passed
-far : Bool → ℕ → Bool
-far b k = leb (32 * (k + 1)) (monthsIf b (k + 2))
+-- the date of a day of the year, found on that line
+abbrev pub evened : Bool → ℕ → ℕ
+evened b d = d + boolByte (leb (59 + boolByte b) d) * (2 - boolByte b)
 
-pub two-months : (y k : ℕ) → k < 11 → 32 * (k + 1) ≤ daysOfMonths y (k + 2)
-unfolding far monthsIf
-two-months y k h = rw (months-if y (k + 2)) (by (leap y))
+abbrev pub lineMonth : Bool → ℕ → ℕ
+lineMonth b d = (12 * evened b d + 373) / 367
+
+abbrev pub lineDay : Bool → ℕ → ℕ
+lineDay b d = evened b d - line (lineMonth b d) + 1
+
+abbrev monthIf : Bool → ℕ → ℕ
+monthIf b m = cond (eqb m 2 && b) 29 (getD (0 ∷ monthTable) m 0)
+
+dated : Bool → ℕ → Bool
+dated b d =
+    let m = lineMonth b d in
+    let k = lineDay b d in
+    leb (evened b d) 367 && (leb 1 m && (leb m 12 && (leb (line m) (evened b d) && (leb k (monthIf b m) && eqb (monthsIf b (m - 1) + (k - 1)) d))))
+
+pub record LineDate (b : Bool) (y d : ℕ) : Type 0 where
+  pub small : evened b d ≤ 367
+  pub month-low : 1 ≤ lineMonth b d
+  pub month-high : lineMonth b d ≤ 12
+  pub day-reached : line (lineMonth b d) ≤ evened b d
+  pub day-high : lineDay b d ≤ monthDays y (lineMonth b d)
+  pub counted : daysOfMonths y (lineMonth b d - 1) + (lineDay b d - 1) ≡ d
+
+read-off : (b : Bool) (y d : ℕ) → b ≡ leap y → dated b d ≡ true → LineDate b y d
+unfolding dated monthDays
+read-off b y d l t =
+    let m = lineMonth b d in
+    let k = lineDay b d in
+    let x = evened b d in
+    let e = eqb (monthsIf b (m - 1) + (k - 1)) d in
+    let t₁ = and-right (leb x 367) _ t in
+    let t₂ = and-right (leb 1 m) _ t₁ in
+    let t₃ = and-right (leb m 12) _ t₂ in
+    let t₄ = and-right (leb (line m) x) _ t₃ in
+    let months : daysOfMonths y (m - 1) ≡ monthsIf b (m - 1) = months-if y (m - 1) ∙ ap (λ (z : Bool). monthsIf z (m - 1)) (sym l) in
+    record {
+      small = leb-true x 367 (and-left (leb x 367) _ t);
+      month-low = leb-true 1 m (and-left (leb 1 m) _ t₁);
+      month-high = leb-true m 12 (and-left (leb m 12) _ t₂);
+      day-reached = leb-true (line m) x (and-left (leb (line m) x) _ t₃);
+      day-high = rw (← l) (leb-true k (monthIf b m) (and-left (leb k (monthIf b m)) e t₄));
+      counted = ap (λ (n : ℕ). n + (k - 1)) months ∙ eqb-true _ d (and-right (leb k (monthIf b m)) e t₄);
+    }
+
+pub line-date : (b : Bool) (y d : ℕ) → b ≡ leap y → d < yearDays y → LineDate b y d
+unfolding dated yearDays monthsIf
+line-date b y d l h = read-off b y d l (by b (rw (← l) at h))
   where
-    by : (b : Bool) → 32 * (k + 1) ≤ monthsIf b (k + 2)
-    by true = leb-true _ _ (each 11 (far true) refl k h)
-    by false = leb-true _ _ (each 11 (far false) refl k h)
+    by : (b : Bool) → d < cond b 366 365 → dated b d ≡ true
+    by true h = each 366 (dated true) refl d h
+    by false h = each 365 (dated false) refl d h
+
+-- ---- years from March
+-- the days before 1 January, and what the months of such a year are
+march-sum : (y d n q c f : ℕ) → d + c ≡ 365 * y + q + f → 365 * (y + 399) + (q + 99) + f ≡ d + 145731 + (c + 3)
+march-sum y d n q c f e = omega arith
+
+pub march : (y : ℕ) → 365 * (y + 399) + (y + 399) / 4 + (y + 399) / 100 / 4 ≡ daysBeforeYear y + 145731 + (y + 399) / 100
+march y =
+    let q : (y + 399) / 4 ≡ (y + 3) / 4 + 99 = omega arith in
+    let c : (y + 399) / 100 ≡ (y + 99) / 100 + 3 = omega arith in
+    rw (div-div-eq-div-mul (y + 399) 100 4, q, c)
+    (march-sum y (daysBeforeYear y) 0 ((y + 3) / 4) ((y + 99) / 100) ((y + 399) / 400) (closed-form y))
+
+late : Bool → ℕ → Bool
+late b k = eqb ((153 * k + 2) / 5 + cond b 366 365) (monthsIf b (k + 2) + 306)
+
+pub late-month : (y k : ℕ) → k < 10 → (153 * k + 2) / 5 + yearDays y ≡ daysOfMonths y (k + 2) + 306
+unfolding late monthsIf yearDays
+late-month y k h = rw (months-if y (k + 2)) (by (leap y))
+  where
+    by : (b : Bool) → (153 * k + 2) / 5 + cond b 366 365 ≡ monthsIf b (k + 2) + 306
+    by true = eqb-true _ _ (each 10 (late true) refl k h)
+    by false = eqb-true _ _ (each 10 (late false) refl k h)
+
+early : Bool → ℕ → Bool
+early b k = eqb ((153 * (k + 10) + 2) / 5) (monthsIf b k + 306)
+
+pub early-month : (y k : ℕ) → k < 2 → (153 * (k + 10) + 2) / 5 ≡ daysOfMonths y k + 306
+unfolding early monthsIf
+early-month y k h = rw (months-if y k) (by (leap y))
+  where
+    by : (b : Bool) → (153 * (k + 10) + 2) / 5 ≡ monthsIf b k + 306
+    by true = eqb-true _ _ (each 2 (early true) refl k h)
+    by false = eqb-true _ _ (each 2 (early false) refl k h)
+
+abbrev pub marchYear : Bool → ℕ → ℕ
+marchYear t y = y + 400 - boolByte t
+
+abbrev pub marchMonth : Bool → ℕ → ℕ
+marchMonth t m = m + 12 * boolByte t - 3
+
+abbrev pub marchDays : ℕ → ℕ
+marchDays n = 365 * n + n / 4 - n / 100 + n / 100 / 4
+
+march-days : (y : ℕ) → marchDays (y + 399) ≡ daysBeforeYear y + 145731
+march-days y = by (y + 399) ((y + 399) / 4) ((y + 399) / 100) ((y + 399) / 100 / 4) (daysBeforeYear y) (march y) (omega arith)
+  where
+    by : (n q c f d : ℕ) → 365 * n + q + f ≡ d + 145731 + c → c ≤ n → 365 * n + q - c + f ≡ d + 145731
+    by n q c f d e h = omega arith
+
+add-up : (a b n o w d : ℕ) → 1 ≤ d → a ≡ n + w + 145731 → b + w ≡ o + 306 → a + b + d ≡ n + o + (d - 1) + 146038
+add-up a b n o w d h e f = omega arith
+
+-- by whether the month stands before March
+pub march-date : (y m d : ℕ) → 1 ≤ m → m ≤ 12 → 1 ≤ d → (t : Bool) → ltb m 3 ≡ t →
+    marchDays (marchYear t y) + (153 * marchMonth t m + 2) / 5 + d ≡ dayNumber y m d + 146038
+unfolding dayNumber
+march-date y m d h k l true p =
+    let n : y + 400 - 1 ≡ y + 399 = omega arith in
+    let i : m + 12 - 3 ≡ m - 1 + 10 = omega arith in
+    let e : marchDays (y + 399) ≡ daysBeforeYear y + 0 + 145731 = omega (arith, march-days y) in
+    let f : (153 * (m - 1 + 10) + 2) / 5 + 0 ≡ daysOfMonths y (m - 1) + 306 = omega (arith, early-month y (m - 1) (omega (arith, ltb-true))) in
+    add-up _ _ (daysBeforeYear y) (daysOfMonths y (m - 1)) 0 d l (ap marchDays n ∙ e) (ap (λ (x : ℕ). (153 * x + 2) / 5 + 0) i ∙ f)
+march-date y m d h k l false p =
+    let g : 3 ≤ m = ltb-false m 3 p in
+    let n : y + 400 - 0 ≡ y + 1 + 399 = omega arith in
+    let i : m + 0 - 3 ≡ m - 3 = omega arith in
+    let j : m - 3 + 2 ≡ m - 1 = omega arith in
+    add-up _ _ (daysBeforeYear y) (daysOfMonths y (m - 1)) (yearDays y) d l
+    (ap marchDays n ∙ march-days (y + 1) ∙ ap (λ (x : ℕ). x + 145731) (year-step y))
+    (ap (λ (x : ℕ). (153 * x + 2) / 5 + yearDays y) i ∙ late-month y (m - 3) (omega arith) ∙ ap (λ (x : ℕ). daysOfMonths y x + 306) j)
 
 -- ---- day numbers
 pub day-bound : (y m d : ℕ) → dayNumber y m d ≤ 366 * y + 31 * (m - 1) + (d - 1)

@@ -7,7 +7,7 @@ ghost use mathlib.Core.Path.{_≡_};
 ghost use Prim.Native.Nat.{_+_, _-_, _*_, _<_, _≤_};
 ghost use lib.IntN.{pos, _-ℤ_};
 ghost use Rattle.extended.specs.Outcome.{Outcome, accepted, number};
-ghost use Rattle.extended.specs.Calendar.{leap, monthDays, daysBeforeYear, daysOfMonths, dayNumber, yearDays, civil};
+ghost use Rattle.extended.specs.Calendar.{leap, monthDays, daysBeforeYear, yearDays, daysOfMonths, dayNumber, Valid, ymd, civil};
 ghost use Rattle.extended.specs.Extended.{madeOf, secondsOf, countOf, make, blank, date, time, dateOf, timeOf, testDate, testTime, testOffset, test, testYear, accept, clockSeconds, moment, unixSeconds, fromClock, fromUnixSeconds, withDate, withTime, withOffset, carried, addSeconds, addUnits, addDays, addHours, addMinutes, clamp, addYears, addMonths, dayOfYear, weekdaySunday0, weekdayMonday0};
 use integers::Checked;
 use integers::Natural;
@@ -389,6 +389,10 @@ fn date_refusal(date: DateParts) -> u32
     if date.day < 1 {
         return 12;
     }
+    // No month has fewer days.
+    if date.day < 29 {
+        return 0;
+    }
     if date.day > days_in_month(date.year, date.month) {
         return 12;
     }
@@ -493,7 +497,7 @@ fn months_before(year: u32, month: u8) -> i64
 pub fn is_leap_year(year: u32) -> bool
     ensures { λ r. ⌜ r ≡ leap year ⌝ }
 {
-    (year % 4 == 0 && year % 100 != 0) || (year % 400 == 0)
+    (year % 400 == 0) | ((year % 4 == 0) & (year % 100 != 0))
 }
 
 const MONTH_DAYS: [u8; 12] = [31, 28, 31, 30, 31, 30, 31, 31, 30, 31, 30, 31];
@@ -507,16 +511,11 @@ pub fn days_in_month(year: u32, month: u8) -> u8
     if month > 12 {
         return 0;
     }
-    if month == 2 {
-        if is_leap_year(year) {
-            return 29;
-        }
-    }
     let i = (month - 1) as usize;
-    MONTH_DAYS[i]
+    MONTH_DAYS[i] + ((month == 2) & is_leap_year(year)) as u8
 }
 
-// The days of all years before `year`; of the years that 400 divides, one in four of those that 100 does.
+// The days of all years before `year`. Of the years that 100 divides, 400 divides one in four.
 fn days_before_year(year: u64) -> u64
     requires { ⌜ year < 1099511627776 ⌝ }
     ensures { λ r. ⌜ r ≡ daysBeforeYear year ⌝ }
@@ -525,30 +524,27 @@ fn days_before_year(year: u64) -> u64
     365 * year + (year + 3) / 4 - centuries + (centuries + 3) / 4
 }
 
-// The days of the months before each, in a year of 365 days.
-const DAYS_BEFORE_MONTH: [u16; 12] = [0, 31, 59, 90, 120, 151, 181, 212, 243, 273, 304, 334];
-
-// The days of the months of `year` before `month`.
+// The days of the months of `year` before `month`: those of months on a line, less what February is shorter than on it.
 fn days_before_month(year: u32, month: u8) -> u32
     requires { ⌜ (1 ≤ month) × (month ≤ 12) ⌝ }
     ensures { λ r. ⌜ r ≡ daysOfMonths year (month - 1) ⌝ }
 {
-    let i = (month - 1) as usize;
-    let days = DAYS_BEFORE_MONTH[i] as u32;
-    if month > 2 {
-        if is_leap_year(year) {
-            return days + 1;
-        }
-    }
-    days
+    let short = (month > 2) as u32 * (2 - is_leap_year(year) as u32);
+    (367 * (month as u32) - 362) / 12 - short
 }
 
-// The day number of a date.
+// The day number of a date. The years here begin in March, 400 of them before year 0: the leap day is then the last day of
+// its year, and no year has to be tested for it.
 fn days_from_civil(year: u32, month: u8, day: u8) -> u64
     requires { ⌜ (1 ≤ month) × (month ≤ 12) × (1 ≤ day) ⌝ }
     ensures { λ r. ⌜ r ≡ dayNumber year month day ⌝ }
 {
-    days_before_year(year as u64) + days_before_month(year, month) as u64 + (day - 1) as u64
+    let early = (month < 3) as u64;
+    let march_year = year as u64 + 400 - early;
+    let march_month = month as u64 + 12 * early - 3;
+    let centuries = march_year / 100;
+    let days = 365 * march_year + march_year / 4 - centuries + centuries / 4;
+    days + (153 * march_month + 2) / 5 + day as u64 - 146038
 }
 
 // A date whose year may be any.
@@ -565,11 +561,11 @@ fn civil_from_days(days: u64) -> Civil
     let day_of_block = (days % 146097) as u32;
     let year_of_block = year_in_block(day_of_block);
     let day_of_year = day_of_block - days_before_year(year_of_block as u64) as u32;
-    let month = month_in_year(year_of_block, day_of_year);
+    let date = date_in_year(year_of_block, day_of_year);
     Civil {
         year: days / 146097 * 400 + year_of_block as u64,
-        month: month,
-        day: (day_of_year - days_before_month(year_of_block, month) + 1) as u8,
+        month: date.month,
+        day: date.day,
     }
 }
 
@@ -580,22 +576,26 @@ fn year_in_block(day: u32) -> u32
     ensures { λ r. ⌜ (daysBeforeYear r ≤ day) × (day < daysBeforeYear (r + 1)) ⌝ }
 {
     let year = day / 366;
-    if days_before_year(year as u64 + 1) as u32 <= day {
-        return year + 1;
-    }
-    year
+    year + (days_before_year(year as u64 + 1) <= day as u64) as u32
 }
 
-// The month that holds a day of a year; in the same way, since no month has more than 32 days.
-fn month_in_year(year: u32, day: u32) -> u8
+struct MonthDay {
+    month: u8,
+    day: u8,
+}
+
+// The month and the day of the month of a day of a year. With two days more for February, or one in a leap year, the months
+// lie on a line.
+fn date_in_year(year: u32, day: u32) -> MonthDay
     requires { ⌜ day < yearDays year ⌝ }
-    ensures { λ r. ⌜ (1 ≤ r) × (r ≤ 12) × (daysOfMonths year (r - 1) ≤ day) × (day < daysOfMonths year r) ⌝ }
+    ensures { λ r. ⌜ Valid (ymd year (r .month) (r .day)) × (daysOfMonths year (r .month - 1) + (r .day - 1) ≡ day) ⌝ }
 {
-    let month = (day / 32 + 1) as u8;
-    if month < 12 {
-        if days_before_month(year, month + 1) <= day {
-            return month + 1;
-        }
+    let leap = is_leap_year(year) as u32;
+    let late = (day >= 59 + leap) as u32;
+    let even = day + late * (2 - leap);
+    let month = (12 * even + 373) / 367;
+    MonthDay {
+        month: month as u8,
+        day: (even - (367 * month - 362) / 12 + 1) as u8,
     }
-    month
 }

@@ -1,80 +1,61 @@
--- `extended::days_before_month` meets its contract: the table's entry is the days before the month in a common year. Assumes nothing.
-use Prim.Native.Nat.{_+_, _-_, _<_, _≤_, ℕ}
-use mathlib.Core.Path.{_∙_, _≡_, refl, sym}
-use mathlib.Core.Bool.{Bool, _&&_, false, true}
+-- `extended::days_before_month` meets its contract: the months lie on a line. Assumes nothing.
+use Prim.Native.Nat.{_*_, _+_, _-_, _≤_}
+use mathlib.Core.Path.{_≡_}
+use mathlib.Core.Bool.{Bool, false, true}
 use native.Mathlib.Omega.{arith}
 use lib.Dec.{ltb}
-use lib.ListN.{getD}
 use borrow.Author.Needs.{needs}
-use borrow.Author.Tests.{le-ltb, lt-ltb}
-use Rattle.extended.proofs.Counting.{cumulated, months-bound, months-cumulated}
-use Rattle.extended.specs.Calendar.{daysOfMonths, leap}
+use Rattle.extended.proofs.Counting.{byte-small, line, months-line, shortened}
+use Rattle.extended.specs.Calendar.{daysOfMonths}
+use mir.Val.{boolByte}
 use Rattle.extended.proofs.days_before_month.Statement.{statement}
 use Rattle.extended.proofs.days_before_month.Tie as tie
 
-small : (y k : ℕ) → k < 12 → getD cumulated k 0 ≤ 341
-small y k h = omega (arith, months-cumulated y k h, months-bound y k)
+short-small : (a b : Bool) → boolByte a * (2 - boolByte b) ≤ 2
+short-small true true = omega arith
+short-small true false = omega arith
+short-small false b = omega arith
 
-in-leap : (y k : ℕ) → k < 12 → 1 < k → leap y ≡ true → getD cumulated k 0 + 1 ≡ daysOfMonths y k
-in-leap y k h l p = sym (months-cumulated y k h ∙ simp (lt-ltb 1 k l, p))
+on-line : (c : tie.After-is-leap-year) → let a = c .before .args in daysOfMonths (a .year) (a .month - 1) + shortened (c .is-leap-year .result) (a .month) ≡ line (a .month)
+on-line c = let a = c .before .args in months-line (c .is-leap-year .result) (a .year) (a .month) (c .is-leap-year .ensures) (c .before .pre .0) (c .before .pre .1)
 
-in-common : (y k : ℕ) → k < 12 → leap y ≡ false → getD cumulated k 0 ≡ daysOfMonths y k
-in-common y k h p = sym (months-cumulated y k h ∙ simp (p, none (ltb 1 k)) (omega arith))
-  where
-    none : (b : Bool) → (b && false) ≡ false
-    none true = refl
-    none false = refl
-
-before-march : (y k : ℕ) → k ≤ 1 → getD cumulated k 0 ≡ daysOfMonths y k
-before-march y k l = sym (months-cumulated y k (omega arith) ∙ simp (le-ltb 1 k l) (omega arith))
-
-sub-i : tie.Need-sub-i
-sub-i c = search needs
-
-cast-i : tie.Need-cast-i
-cast-i c = search needs
-
-mul-days : tie.Need-mul-days
-mul-days c = search needs
-
-array-read-days : tie.Need-array-read-days
-array-read-days c = search needs
-
-cast-days : tie.Need-cast-days
-cast-days c = record { fits = omega (arith, small (c .args .year) (c .args .month - 1) (omega arith)) }
+cast-short : tie.Need-cast-short
+cast-short c = search needs
 
 is-leap-year-requires : tie.Need-is-leap-year-requires
 is-leap-year-requires c κs = search needs
 
-add-result : tie.Need-add-result
-add-result c = record { fits = omega (arith, small (c .before .before .before .args .year) (c .before .before .before .args .month - 1) (omega arith)) }
+cast-short-2 : tie.Need-cast-short-2
+cast-short-2 c = search needs
+
+sub-short : tie.Need-sub-short
+sub-short c = omega (arith, byte-small (c .is-leap-year .result))
+
+mul-short : tie.Need-mul-short
+mul-short c = record { fits = omega (arith, short-small (ltb 2 (c .before .args .month)) (c .is-leap-year .result)) }
+
+mul-result : tie.Need-mul-result
+mul-result c = search needs
+
+sub-result : tie.Need-sub-result
+sub-result c = search needs
+
+sub-result-2 : tie.Need-sub-result-2
+sub-result-2 c = omega (arith, on-line c)
 
 returns : tie.Need-returns
-returns c =
-    let a = c .before .before .before .args in
-    in-leap (a .year) (a .month - 1) (omega arith) (omega arith) (sym (c .before .is-leap-year .ensures) ∙ c .if2 .taken)
-
-returns-2 : tie.Need-returns-2
-returns-2 c =
-    let a = c .before .before .before .args in
-    in-common (a .year) (a .month - 1) (omega arith) (sym (c .before .is-leap-year .ensures) ∙ c .if2 .left)
-
-returns-3 : tie.Need-returns-3
-returns-3 c =
-    let a = c .before .args in
-    before-march (a .year) (a .month - 1) (omega arith)
+returns c = omega (arith, on-line c)
 
 pub days-before-month-spec : {M : Type 1} → statement M
 days-before-month-spec =
     tie.close
     (tie.spec
-    sub-i
-    cast-i
-    mul-days
-    array-read-days
-    cast-days
+    cast-short
     is-leap-year-requires
-    add-result
-    returns
-    returns-2
-    returns-3)
+    cast-short-2
+    sub-short
+    mul-short
+    mul-result
+    sub-result
+    sub-result-2
+    returns)

@@ -1,46 +1,97 @@
--- `extended::days_from_civil` meets its contract, part by part. Assumes nothing.
-use Prim.Native.Nat.{_-_}
+-- `extended::days_from_civil` meets its contract: the days of a year that begins in March. Assumes nothing.
+use Prim.Native.Nat.{_*_, _+_, _/_, _<_, _≤_, ℕ}
+use mathlib.Core.Path.{_≡_, refl}
+use mathlib.Core.Bool.{Bool, false, true}
 use native.Mathlib.Omega.{arith}
+use lib.Dec.{ltb}
 use borrow.Author.Needs.{needs}
-use Rattle.extended.proofs.Counting.{months-bound, years-bound}
+use borrow.Author.Tests.{ltb-false}
+use Rattle.extended.proofs.Counting.{byte-small, day-bound, march-date, marchDays, marchMonth, marchYear}
 use Rattle.extended.specs.Calendar.{dayNumber}
+use mir.Val.{boolByte}
 use Rattle.extended.proofs.days_from_civil.Statement.{statement}
 use Rattle.extended.proofs.days_from_civil.Tie as tie
 
-days-before-year-requires : tie.Need-days-before-year-requires
-days-before-year-requires c κs = search needs
+enough : (m : ℕ) → 1 ≤ m → (t : Bool) → ltb m 3 ≡ t → 3 ≤ m + 12 * boolByte t
+enough m h true p = omega arith
+enough m h false p = omega (arith, ltb-false)
 
-days-before-month-requires : tie.Need-days-before-month-requires
-days-before-month-requires c κs = search needs
+sum : (c : tie.Start) →
+    let a = c .args in
+    let t = ltb (a .month) 3 in
+    (marchDays (marchYear t (a .year)) + (153 * marchMonth t (a .month) + 2) / 5 + a .day ≡ dayNumber (a .year) (a .month) (a .day) + 146038)
+    × (dayNumber (a .year) (a .month) (a .day) + 146038 < 18446744073709551616)
+sum c =
+    let a = c .args in (
+      march-date (a .year) (a .month) (a .day) (c .pre .0) (c .pre .1) (c .pre .2) (ltb (a .month) 3) refl,
+      omega (arith, day-bound (a .year) (a .month) (a .day)),
+    )
 
-cast-result : tie.Need-cast-result
-cast-result c = search needs
+cast-early : tie.Need-cast-early
+cast-early c = search needs
+
+add-march-year : tie.Need-add-march-year
+add-march-year c = search needs
+
+sub-march-year : tie.Need-sub-march-year
+sub-march-year c = omega (arith, byte-small (ltb (c .args .month) 3))
+
+mul-march-month : tie.Need-mul-march-month
+mul-march-month c = record { fits = omega (arith, byte-small (ltb (c .args .month) 3)) }
+
+add-march-month : tie.Need-add-march-month
+add-march-month c = record { fits = omega (arith, byte-small (ltb (c .args .month) 3)) }
+
+sub-march-month : tie.Need-sub-march-month
+sub-march-month c = enough (c .args .month) (c .pre .0) (ltb (c .args .month) 3) refl
+
+mul-days : tie.Need-mul-days
+mul-days c = search needs
+
+add-days : tie.Need-add-days
+add-days c = search needs
+
+sub-days : tie.Need-sub-days
+sub-days c = search needs
+
+add-days-2 : tie.Need-add-days-2
+add-days-2 c = search needs
+
+mul-result : tie.Need-mul-result
+mul-result c = record { fits = omega (arith, byte-small (ltb (c .args .month) 3)) }
 
 add-result : tie.Need-add-result
-add-result c = omega (arith, years-bound (c .before .before .args .year))
-
-sub-result : tie.Need-sub-result
-sub-result c = search needs
-
-cast-result-2 : tie.Need-cast-result-2
-cast-result-2 c = search needs
+add-result c = record { fits = omega (arith, byte-small (ltb (c .args .month) 3)) }
 
 add-result-2 : tie.Need-add-result-2
-add-result-2 c = omega (arith, years-bound (c .before .before .args .year), months-bound (c .before .before .args .year) (c .before .before .args .month - 1))
+add-result-2 c = record { fits = omega (arith, sum c) }
+
+add-result-3 : tie.Need-add-result-3
+add-result-3 c = record { fits = omega (arith, sum c) }
+
+sub-result : tie.Need-sub-result
+sub-result c = omega (arith, sum c)
 
 returns : tie.Need-returns
-unfolding dayNumber
-returns c = omega arith
+returns c = omega (arith, sum c)
 
 pub days-from-civil-spec : {M : Type 1} → statement M
 days-from-civil-spec =
     tie.close
     (tie.spec
-    days-before-year-requires
-    days-before-month-requires
-    cast-result
+    cast-early
+    add-march-year
+    sub-march-year
+    mul-march-month
+    add-march-month
+    sub-march-month
+    mul-days
+    add-days
+    sub-days
+    add-days-2
+    mul-result
     add-result
-    sub-result
-    cast-result-2
     add-result-2
+    add-result-3
+    sub-result
     returns)
