@@ -374,9 +374,19 @@ fn from_parts(date: DateParts, time: TimeParts, offset_seconds: i32) -> Extended
     }
 }
 
+// The tests of `new`, in its order. All of them at once come first, since nearly every record passes.
 fn date_refusal(date: DateParts) -> u32
     ensures { λ r. ⌜ r ≡ number (testDate date) ⌝ }
 {
+    // No month has fewer than 28 days.
+    if (date.year <= GNU_MAX_YEAR)
+        & (date.month >= 1)
+        & (date.month <= 12)
+        & (date.day >= 1)
+        & (date.day <= 28)
+    {
+        return 0;
+    }
     if date.year > GNU_MAX_YEAR {
         return 9;
     }
@@ -389,10 +399,6 @@ fn date_refusal(date: DateParts) -> u32
     if date.day < 1 {
         return 12;
     }
-    // No month has fewer days.
-    if date.day < 29 {
-        return 0;
-    }
     if date.day > days_in_month(date.year, date.month) {
         return 12;
     }
@@ -402,6 +408,13 @@ fn date_refusal(date: DateParts) -> u32
 fn time_refusal(time: TimeParts) -> u32
     ensures { λ r. ⌜ r ≡ number (testTime time) ⌝ }
 {
+    if (time.hour <= 23)
+        & (time.minute <= 59)
+        & (time.second <= 59)
+        & (time.nanosecond <= 999999999)
+    {
+        return 0;
+    }
     if time.hour > 23 {
         return 13;
     }
@@ -411,22 +424,16 @@ fn time_refusal(time: TimeParts) -> u32
     if time.second > 59 {
         return 15;
     }
-    if time.nanosecond > 999999999 {
-        return 16;
-    }
-    0
+    16
 }
 
 fn offset_refusal(offset_seconds: i32) -> u32
     ensures { λ r. ⌜ r ≡ number (testOffset «offset_seconds») ⌝ }
 {
-    if offset_seconds < -86400 {
-        return 17;
+    if (offset_seconds >= -86400) & (offset_seconds <= 86400) {
+        return 0;
     }
-    if offset_seconds > 86400 {
-        return 17;
-    }
-    0
+    17
 }
 
 // The Rust's quirk: a year that no u32 holds is refused as a negative one is.
@@ -539,12 +546,12 @@ fn days_from_civil(year: u32, month: u8, day: u8) -> u64
     requires { ⌜ (1 ≤ month) × (month ≤ 12) × (1 ≤ day) ⌝ }
     ensures { λ r. ⌜ r ≡ dayNumber year month day ⌝ }
 {
-    let early = (month < 3) as u64;
-    let march_year = year as u64 + 400 - early;
-    let march_month = month as u64 + 12 * early - 3;
+    let early = (month < 3) as u32;
+    let march_year = year as u64 + 400 - early as u64;
+    let march_month = month as u32 + 12 * early - 3;
     let centuries = march_year / 100;
     let days = 365 * march_year + march_year / 4 - centuries + centuries / 4;
-    days + (153 * march_month + 2) / 5 + day as u64 - 146038
+    days + ((153 * march_month + 2) / 5 + day as u32) as u64 - 146038
 }
 
 // A date whose year may be any.

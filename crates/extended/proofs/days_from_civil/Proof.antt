@@ -33,6 +33,9 @@ cast-early c = search needs
 add-march-year : tie.Need-add-march-year
 add-march-year c = search needs
 
+cast-march-year : tie.Need-cast-march-year
+cast-march-year c = record { fits = omega (arith, byte-small (ltb (c .args .month) 3)) }
+
 sub-march-year : tie.Need-sub-march-year
 sub-march-year c = omega (arith, byte-small (ltb (c .args .month) 3))
 
@@ -64,7 +67,10 @@ add-result : tie.Need-add-result
 add-result c = record { fits = omega (arith, byte-small (ltb (c .args .month) 3)) }
 
 add-result-2 : tie.Need-add-result-2
-add-result-2 c = record { fits = omega (arith, sum c) }
+add-result-2 c = record { fits = omega (arith, byte-small (ltb (c .args .month) 3)) }
+
+cast-result : tie.Need-cast-result
+cast-result c = record { fits = omega (arith, byte-small (ltb (c .args .month) 3)) }
 
 add-result-3 : tie.Need-add-result-3
 add-result-3 c = record { fits = omega (arith, sum c) }
@@ -81,6 +87,7 @@ days-from-civil-spec =
     (tie.spec
     cast-early
     add-march-year
+    cast-march-year
     sub-march-year
     mul-march-month
     add-march-month
@@ -92,6 +99,7 @@ days-from-civil-spec =
     mul-result
     add-result
     add-result-2
+    cast-result
     add-result-3
     sub-result
     returns)
