@@ -4,6 +4,7 @@
 // any numbers: a record that `new` refuses gets `new`'s number, and every refusal is a number of the
 // table of answers (9 to 18 here), given in the order of the tests.
 ghost use mathlib.Core.Path.{_≡_};
+ghost use mathlib.Core.Bool.{true};
 ghost use Prim.Native.Nat.{_+_, _-_, _*_, _<_, _≤_};
 ghost use lib.IntN.{pos, _-ℤ_};
 ghost use Rattle.extended.specs.Outcome.{Outcome, accepted, number};
@@ -305,6 +306,26 @@ impl ExtendedDateTime {
     fn refusal(self) -> u32
         ensures { λ r. ⌜ r ≡ number (test self) ⌝ }
     {
+        if self.is_plain() {
+            return 0;
+        }
+        self.first_refusal()
+    }
+
+    // All tests at once, since nearly every record passes. No month has fewer than 28 days.
+    fn is_plain(self) -> bool
+        ensures { λ r. ⌜ (r ≡ true → test self ≡ accepted tt) ⌝ }
+    {
+        let date = (self.year <= GNU_MAX_YEAR) & (self.month >= 1) & (self.month <= 12);
+        let day = (self.day >= 1) & (self.day <= 28);
+        let time = (self.hour <= 23) & (self.minute <= 59) & (self.second <= 59);
+        let offset = (self.offset_seconds >= -86400) & (self.offset_seconds <= 86400);
+        date & day & time & (self.nanosecond <= 999999999) & offset
+    }
+
+    fn first_refusal(self) -> u32
+        ensures { λ r. ⌜ r ≡ number (test self) ⌝ }
+    {
         let refusal = date_refusal(self.date());
         if refusal > 0 {
             return refusal;
@@ -374,19 +395,10 @@ fn from_parts(date: DateParts, time: TimeParts, offset_seconds: i32) -> Extended
     }
 }
 
-// The tests of `new`, in its order. All of them at once come first, since nearly every record passes.
+// The tests of `new`, in its order.
 fn date_refusal(date: DateParts) -> u32
     ensures { λ r. ⌜ r ≡ number (testDate date) ⌝ }
 {
-    // No month has fewer than 28 days.
-    if (date.year <= GNU_MAX_YEAR)
-        & (date.month >= 1)
-        & (date.month <= 12)
-        & (date.day >= 1)
-        & (date.day <= 28)
-    {
-        return 0;
-    }
     if date.year > GNU_MAX_YEAR {
         return 9;
     }
@@ -408,13 +420,6 @@ fn date_refusal(date: DateParts) -> u32
 fn time_refusal(time: TimeParts) -> u32
     ensures { λ r. ⌜ r ≡ number (testTime time) ⌝ }
 {
-    if (time.hour <= 23)
-        & (time.minute <= 59)
-        & (time.second <= 59)
-        & (time.nanosecond <= 999999999)
-    {
-        return 0;
-    }
     if time.hour > 23 {
         return 13;
     }
@@ -424,16 +429,22 @@ fn time_refusal(time: TimeParts) -> u32
     if time.second > 59 {
         return 15;
     }
-    16
+    if time.nanosecond > 999999999 {
+        return 16;
+    }
+    0
 }
 
 fn offset_refusal(offset_seconds: i32) -> u32
     ensures { λ r. ⌜ r ≡ number (testOffset «offset_seconds») ⌝ }
 {
-    if (offset_seconds >= -86400) & (offset_seconds <= 86400) {
-        return 0;
+    if offset_seconds < -86400 {
+        return 17;
     }
-    17
+    if offset_seconds > 86400 {
+        return 17;
+    }
+    0
 }
 
 // The Rust's quirk: a year that no u32 holds is refused as a negative one is.
@@ -543,14 +554,14 @@ fn days_before_month(year: u32, month: u8) -> u32
 // The day number of a date. The years here begin in March, 400 of them before year 0: the leap day is then the last day of
 // its year, and no year has to be tested for it.
 fn days_from_civil(year: u32, month: u8, day: u8) -> u64
-    requires { ⌜ (1 ≤ month) × (month ≤ 12) × (1 ≤ day) ⌝ }
+    requires { ⌜ (1 ≤ month) × (month ≤ 12) × (1 ≤ day) × (year ≤ 2147485547) ⌝ }
     ensures { λ r. ⌜ r ≡ dayNumber year month day ⌝ }
 {
     let early = (month < 3) as u32;
-    let march_year = year as u64 + 400 - early as u64;
+    let march_year = year + 400 - early;
     let march_month = month as u32 + 12 * early - 3;
     let centuries = march_year / 100;
-    let days = 365 * march_year + march_year / 4 - centuries + centuries / 4;
+    let days = 365 * (march_year as u64) + (march_year / 4 - centuries + centuries / 4) as u64;
     days + ((153 * march_month + 2) / 5 + day as u32) as u64 - 146038
 }
 

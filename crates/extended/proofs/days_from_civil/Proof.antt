@@ -33,9 +33,6 @@ cast-early c = search needs
 add-march-year : tie.Need-add-march-year
 add-march-year c = search needs
 
-cast-march-year : tie.Need-cast-march-year
-cast-march-year c = record { fits = omega (arith, byte-small (ltb (c .args .month) 3)) }
-
 sub-march-year : tie.Need-sub-march-year
 sub-march-year c = omega (arith, byte-small (ltb (c .args .month) 3))
 
@@ -48,14 +45,20 @@ add-march-month c = record { fits = omega (arith, byte-small (ltb (c .args .mont
 sub-march-month : tie.Need-sub-march-month
 sub-march-month c = enough (c .args .month) (c .pre .0) (ltb (c .args .month) 3) refl
 
+cast-days : tie.Need-cast-days
+cast-days c = search needs
+
 mul-days : tie.Need-mul-days
 mul-days c = search needs
+
+sub-days : tie.Need-sub-days
+sub-days c = search needs
 
 add-days : tie.Need-add-days
 add-days c = search needs
 
-sub-days : tie.Need-sub-days
-sub-days c = search needs
+cast-days-2 : tie.Need-cast-days-2
+cast-days-2 c = search needs
 
 add-days-2 : tie.Need-add-days-2
 add-days-2 c = search needs
@@ -76,7 +79,7 @@ add-result-3 : tie.Need-add-result-3
 add-result-3 c = record { fits = omega (arith, sum c) }
 
 sub-result : tie.Need-sub-result
-sub-result c = omega (arith, sum c)
+sub-result c = search needs
 
 returns : tie.Need-returns
 returns c = omega (arith, sum c)
@@ -87,14 +90,15 @@ days-from-civil-spec =
     (tie.spec
     cast-early
     add-march-year
-    cast-march-year
     sub-march-year
     mul-march-month
     add-march-month
     sub-march-month
+    cast-days
     mul-days
-    add-days
     sub-days
+    add-days
+    cast-days-2
     add-days-2
     mul-result
     add-result

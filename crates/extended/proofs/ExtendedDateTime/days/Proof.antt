@@ -5,7 +5,7 @@ use Rattle.extended.proofs.ExtendedDateTime.days.Statement.{statement}
 use Rattle.extended.proofs.ExtendedDateTime.days.Tie as tie
 
 days-from-civil-requires : tie.Need-days-from-civil-requires
-days-from-civil-requires c κs = let d = facts (c .args .self) (c .pre) .date in (d .month-low, d .month-high, d .day-low)
+days-from-civil-requires c κs = let a = facts (c .args .self) (c .pre) in (a .date .month-low, a .date .month-high, a .date .day-low, a .year-high)
 
 returns : tie.Need-returns
 returns c = search needs
