@@ -23,12 +23,6 @@ pub and-right : (a b : Bool) → (a && b) ≡ true → b ≡ true
 and-right true b p = p
 and-right false b p = untrue p
 
-pub and-four : (a b c d : Bool) → (((a && b) && c) && d) ≡ true → (a ≡ true) × (b ≡ true) × (c ≡ true) × (d ≡ true)
-and-four a b c d e =
-    let x = and-left ((a && b) && c) d e in
-    let y = and-left (a && b) c x in
-    (and-left a b y, and-right a b y, and-right (a && b) c x, and-right ((a && b) && c) d e)
-
 and-false : (b : Bool) → (b && false) ≡ false
 and-false true = refl
 and-false false = refl

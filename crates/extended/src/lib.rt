@@ -4,7 +4,6 @@
 // any numbers: a record that `new` refuses gets `new`'s number, and every refusal is a number of the
 // table of answers (9 to 18 here), given in the order of the tests.
 ghost use mathlib.Core.Path.{_≡_};
-ghost use mathlib.Core.Bool.{true};
 ghost use Prim.Native.Nat.{_+_, _-_, _*_, _<_, _≤_};
 ghost use lib.IntN.{pos, _-ℤ_};
 ghost use Rattle.extended.specs.Outcome.{Outcome, accepted, number};
@@ -304,26 +303,6 @@ impl ExtendedDateTime {
 
     // The number of the first test that the record fails, 0 where it is accepted.
     fn refusal(self) -> u32
-        ensures { λ r. ⌜ r ≡ number (test self) ⌝ }
-    {
-        if self.is_plain() {
-            return 0;
-        }
-        self.first_refusal()
-    }
-
-    // All tests at once, since nearly every record passes. No month has fewer than 28 days.
-    fn is_plain(self) -> bool
-        ensures { λ r. ⌜ (r ≡ true → test self ≡ accepted tt) ⌝ }
-    {
-        let date = (self.year <= GNU_MAX_YEAR) & (self.month >= 1) & (self.month <= 12);
-        let day = (self.day >= 1) & (self.day <= 28);
-        let time = (self.hour <= 23) & (self.minute <= 59) & (self.second <= 59);
-        let offset = (self.offset_seconds >= -86400) & (self.offset_seconds <= 86400);
-        date & day & time & (self.nanosecond <= 999999999) & offset
-    }
-
-    fn first_refusal(self) -> u32
         ensures { λ r. ⌜ r ≡ number (test self) ⌝ }
     {
         let refusal = date_refusal(self.date());
