@@ -37,7 +37,7 @@ valid-next t v = day (ltb (t .day) (monthDays (t .year) (t .month))) refl (ltb (
           day-high = omega (arith, month-bounds (t .year + 1) 1 (omega arith) (omega arith));
         }
 
-number-next : (t : Civil) → Valid t → dayOf (nextDay t) ≡ suc (dayOf t)
+pub number-next : (t : Civil) → Valid t → dayOf (nextDay t) ≡ suc (dayOf t)
 unfolding nextDay dayNumber
 number-next t v = day (ltb (t .day) (monthDays (t .year) (t .month))) refl (ltb (t .month) 12) refl
   where

@@ -5,3 +5,5 @@ pub mod Outcomes
 pub mod Records
 pub mod Moments
 pub mod Adding
+pub mod Theorems
+pub mod Examples
