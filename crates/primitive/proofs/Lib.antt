@@ -1,0 +1,4 @@
+pub mod Tests
+pub mod Lowered
+pub mod Runs
+pub mod Examples

@@ -1,0 +1,22 @@
+use Rattle.primitive.proofs.Runs.{runs}
+use Rattle.primitive.specs.Primitive.{alpha1}
+use borrow.Author.Needs.{needs}
+use Rattle.primitive.proofs.alpha1.Statement.{statement}
+use Rattle.primitive.proofs.alpha1.Tie as tie
+use Rattle.primitive.proofs.alpha1.Reads as reads
+use Rattle.primitive.proofs.alpha1.Lts as lts
+use Rattle.primitive.proofs.letters.Reads as letters-reads
+
+letters-requires : tie.Need-letters-requires
+letters-requires c κs = search needs
+
+returns : tie.Need-returns
+unfolding alpha1
+returns c = search runs
+
+returns-2 : tie.Need-returns-2
+unfolding alpha1
+returns-2 c = search runs
+
+pub alpha1-spec : {M : Type 1} → statement M
+alpha1-spec = tie.close (tie.spec letters-requires returns returns-2)
