@@ -1,10 +1,11 @@
 -- The laws of lower case: a byte lowered as it is read is the byte of the lowered text. Assumes nothing.
-use Prim.Native.Nat.{ℕ, zero, suc, _+_, _<_, _≤_}
+use Prim.Native.Nat.{ℕ, zero, suc, _+_, _<_, _≤_, min}
 use native.Mathlib.Numerals.{add-one}
 use mathlib.Core.Path.{_≡_, refl, sym, ap, _∙_}
 use mathlib.Core.List.{List, [], _∷_, map}
-use lib.ListN.{length, getD, drop, drop-of-length-le}
-use lib.Seq.{drop-cons}
+use native.Mathlib.Omega.{arith}
+use lib.ListN.{length, getD, take, drop, drop-of-length-le, length-take}
+use lib.Seq.{slice, drop-cons, getD-take}
 use Rattle.primitive.specs.Text.{lower, lowered}
 
 pub length-lowered : (s : List ℕ) → length (lowered s) ≡ length s
@@ -31,3 +32,16 @@ module _ (s : List ℕ) (i : ℕ) where
 
   pub rest-none : length s ≤ i → drop i (lowered s) ≡ []
   rest-none h = drop-of-length-le (lowered s) (beyond h)
+
+-- A part of the lowered text, by its first byte; the end may lie anywhere.
+module _ (s : List ℕ) (i to : ℕ) where
+  pub slice-first : i < to → i < length s → (b : ℕ) → b ≡ lower (getD s i 0) → slice i to (lowered s) ≡ b ∷ slice (i + 1) to (lowered s)
+  slice-first h k b e =
+      let l : i < length (take to (lowered s)) = simp (length-take, length-lowered) (omega arith) in
+      rw (e, ← getD-lowered s i, ← getD-take to (lowered s) i 0 h, add-one) (drop-cons (take to (lowered s)) i 0 l)
+
+  pub slice-beyond : length s ≤ i → slice i to (lowered s) ≡ []
+  slice-beyond h = drop-of-length-le (take to (lowered s)) {i = i} (simp (length-take, length-lowered) (omega arith))
+
+  pub slice-over : to ≤ i → slice i to (lowered s) ≡ []
+  slice-over h = drop-of-length-le (take to (lowered s)) {i = i} (simp (length-take, length-lowered) (omega arith))
