@@ -8,4 +8,5 @@ pub mod Numbers
 pub mod Comments
 pub mod Forward
 pub mod Spaces
+pub mod Tables
 pub mod Examples

@@ -137,7 +137,7 @@ named [] w text at = none
 named (e ∷ es) w text at = if (same w (bytes (e .0))) (matched (e .1) at) (named es w text at)
 
 -- the words of a row of bytes in which a blank stands behind each word
-abbrev longer : ℕ → List (List ℕ) → List (List ℕ)
+abbrev pub longer : ℕ → List (List ℕ) → List (List ℕ)
 longer b [] = []
 longer b (w ∷ ws) = (b ∷ w) ∷ ws
 
