@@ -8,8 +8,8 @@ use lib.IntN.{ℤ, pos, negsuc}
 use Rattle.primitive.specs.Answer.{Answer, Reader, matched, none}
 use Rattle.primitive.specs.Text.{lower, lowered, bytes, blank, digit, letter, run, past, some, starts, tag, quoted}
 use Rattle.primitive.specs.Primitive.{multispace0, multispace1, closing, inside, comment, no-digit, sign-char, ignored-hyphen-or-plus, ignored, skip, space, decimal, parse-uint, dec-uint-str, dec-uint, colon, plus-or-minus, alpha1, same, named, words, index}
-use Rattle.primitive.specs.Epoch.{padded, nanoseconds, fraction, sec-and-nsec}
-use Rattle.primitive.specs.Ordinal.{signed, ordinals, text-ordinal, number-ordinal, ordinal}
+use Rattle.primitive.specs.Epoch.{padded, nanoseconds, point-or-comma, fraction, sec-and-nsec}
+use Rattle.primitive.specs.Ordinal.{signed, signed-number, ordinals, text-ordinal, number-ordinal, ordinal}
 
 -- what a reader makes of a quoted text, from its start
 abbrev reads : {A : Type 0} → Reader A → String → Answer A
@@ -51,7 +51,7 @@ fractions : (reads sec-and-nsec "1.5" ≡ matched (record { sec = 1; nsec = 5000
     × (reads sec-and-nsec "7. 5" ≡ matched (record { sec = 7; nsec = 0 }) 1)
     × (reads sec-and-nsec "18446744073709551615.000000001" ≡ matched (record { sec = 18446744073709551615; nsec = 1 }) 30)
     × (reads sec-and-nsec ".5" ≡ none) × (reads sec-and-nsec "18446744073709551616" ≡ none)
-unfolding lower lowered bytes digit run past some starts tag decimal parse-uint dec-uint-str dec-uint padded nanoseconds fraction sec-and-nsec
+unfolding lower lowered bytes digit run past some starts tag decimal parse-uint dec-uint-str dec-uint padded nanoseconds point-or-comma fraction sec-and-nsec
 fractions = (refl, refl, refl, refl, refl, refl, refl, refl)
 
 -- Ordinals: a word of 29.1 or a signed number; "second" is no ordinal; a sign in front of a comment is ignored.
@@ -60,7 +60,7 @@ ordinal-numbers : (reads ordinal "Last" ≡ matched (negsuc 0) 4) × (reads ordi
     × (reads ordinal "- 12" ≡ matched (negsuc 11) 4)
     × (reads ordinal "-(c)12" ≡ matched (pos 12) 6) × (reads ordinal "+2147483647" ≡ matched (pos 2147483647) 11)
     × (reads ordinal "-2147483648" ≡ none) × (reads ordinal "-0" ≡ matched (pos 0) 2) × (reads ordinal "--3" ≡ matched (negsuc 2) 3)
-unfolding lower lowered bytes blank digit letter run past some starts tag closing inside comment no-digit sign-char ignored-hyphen-or-plus ignored multispace0 skip space decimal parse-uint dec-uint-str dec-uint alpha1 same named signed ordinals text-ordinal number-ordinal ordinal
+unfolding lower lowered bytes blank digit letter run past some starts tag closing inside comment no-digit sign-char ignored-hyphen-or-plus ignored multispace0 skip space decimal parse-uint dec-uint-str dec-uint alpha1 same named signed signed-number ordinals text-ordinal number-ordinal ordinal
 ordinal-numbers = (refl, refl, refl, refl, refl, refl, refl, refl, refl, refl, refl)
 
 -- A table as bytes: each word has a blank behind it; what stands behind the last blank is no word.

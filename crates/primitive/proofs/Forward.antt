@@ -13,8 +13,8 @@ use Prim.Native.String.{String}
 use Rattle.primitive.specs.Answer.{Answer, Reader, matched, none, stop, if, andThen, orElse, _>>=_, _>>_, _<|>_, pure, value, optional, verify}
 use Rattle.primitive.specs.Text.{bytes, blank, digit, run, past, some, starts, tag}
 use Rattle.primitive.specs.Primitive.{multispace0, multispace1, inside, comment, no-digit, sign-char, ignored-hyphen-or-plus, ignored, behind, skip, space, spaced, decimal, parse-uint, dec-uint-str, dec-uint, colon, plus-or-minus, alpha1, same, named}
-use Rattle.primitive.specs.Epoch.{nanoseconds, fraction, sec-and-nsec}
-use Rattle.primitive.specs.Ordinal.{ordinals, signed, text-ordinal, number-ordinal, ordinal}
+use Rattle.primitive.specs.Epoch.{point-or-comma, nanoseconds, fraction, sec-and-nsec}
+use Rattle.primitive.specs.Ordinal.{ordinals, signed, signed-number, text-ordinal, number-ordinal, ordinal}
 use Rattle.primitive.proofs.Comments.{inside-within}
 
 -- n is a place that reading from `at` may end at
@@ -86,7 +86,7 @@ value-forward v p h = next-forward p (pure v) h (pure-forward v)
 
 -- ---- leaves
 
-run-le : (p : ℕ → Bool) (l : List ℕ) → run p l ≤ length l
+pub run-le : (p : ℕ → Bool) (l : List ℕ) → run p l ≤ length l
 unfolding run
 run-le p [] = le-refl 0
 run-le p (b ∷ bs) = go (p b) (run-le p bs)
@@ -214,10 +214,14 @@ alpha1-forward = some-forward _
 
 -- ---- seconds and ordinals
 
+pub point-or-comma-forward : Forward point-or-comma
+unfolding point-or-comma
+point-or-comma-forward = or-forward _ _ (tag-forward _) (tag-forward _)
+
 pub fraction-forward : Forward fraction
 unfolding fraction
 fraction-forward =
-    next-forward _ _ (or-forward _ _ (tag-forward _) (tag-forward _))
+    next-forward _ _ point-or-comma-forward
     (then-forward _ _ dec-uint-str-forward (λ ds. pure-forward (nanoseconds ds)))
 
 pub sec-and-nsec-forward : Forward sec-and-nsec
@@ -230,11 +234,13 @@ pub text-ordinal-forward : Forward text-ordinal
 unfolding text-ordinal
 text-ordinal-forward = then-forward _ _ (spaced-forward _ alpha1-forward) (named-forward ordinals)
 
+pub signed-number-forward : (negative : Bool) → Forward (signed-number negative)
+unfolding signed-number
+signed-number-forward negative = then-forward _ _ (spaced-forward _ (dec-uint-forward _)) (λ n. pure-forward (signed negative n))
+
 pub number-ordinal-forward : Forward number-ordinal
 unfolding number-ordinal
-number-ordinal-forward =
-    then-forward _ _ (spaced-forward _ (optional-forward false _ sign-forward))
-    (λ negative. then-forward _ _ (spaced-forward _ (dec-uint-forward _)) (λ n. pure-forward (signed negative n)))
+number-ordinal-forward = then-forward _ _ (spaced-forward _ (optional-forward false _ sign-forward)) signed-number-forward
 
 pub ordinal-forward : Forward ordinal
 unfolding ordinal

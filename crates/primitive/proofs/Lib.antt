@@ -9,4 +9,5 @@ pub mod Comments
 pub mod Forward
 pub mod Spaces
 pub mod Tables
+pub mod Fractions
 pub mod Examples

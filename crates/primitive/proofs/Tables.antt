@@ -13,9 +13,15 @@ use mathlib.Core.Bool.{Bool, true, false, _&&_, not}
 use lib.ListN.{length, getD, take, drop, drop-of-length-le}
 use lib.Seq.{slice, drop-cons, take-all}
 use lib.Dec.{ltb, leb, eqb, leb·suc-suc}
-use Rattle.primitive.specs.Answer.{Answer, matched, none, if}
+use lib.IntN.{ℤ, pos}
+use mir.Syntax.{w32}
+use mir.Val.{toZ, ofZ}
+use Rattle.primitive.specs.Answer.{Answer, matched, none, if, andThen}
 use Rattle.primitive.specs.Text.{lower, lowered, bytes}
-use Rattle.primitive.specs.Primitive.{same, named, longer, words, index}
+use Rattle.primitive.specs.Primitive.{same, named, longer, words, index, sliceAnswer}
+use Rattle.primitive.specs.declared.ReadPlace.{ReadPlace}
+use Rattle.primitive.specs.declared.ReadPlace.the-variants as place
+use Rattle.primitive.proofs.Chain.{slice-match}
 use Rattle.primitive.proofs.Lowered.{length-lowered, slice-first, slice-over, slice-beyond}
 
 -- the part of the text that is looked for, under a name that shows its arguments
@@ -137,3 +143,59 @@ module _ (s t : List ℕ) (at end i k j v : ℕ) (inv : scanFrom s at end i k t 
             go w = rw (le-leb i end (omega arith), lt-leb (end + 1) end (omega arith), slice-first s i end g (omega arith) b f, ne-eqb b (getD t j 0) d)
 
 pub ruleset scans = (index-within, scan-start, scan-done, scan-found, scan-again, scan-past, scan-same, scan-other, needs)
+
+-- ---- a table of words and values
+
+-- the words of a table, and its values
+unfoldable pub keys : {A : Type 0} → List (String × A) → List (List ℕ)
+keys [] = []
+keys (e ∷ es) = bytes (e .0) ∷ keys es
+
+unfoldable pub values : {A : Type 0} → List (String × A) → List A
+values [] = []
+values (e ∷ es) = e .1 ∷ values es
+
+module _ {A : Type 0} (d : A) (w text : List ℕ) (at : ℕ) where
+  nth : List (String × A) → ℕ → Answer A
+  nth es n = if (ltb n (length es)) (matched (getD (values es) n d) at) none
+
+  nth-index : (es : List (String × A)) → nth es (index w (keys es)) ≡ named es w text at
+  unfolding nth keys values index named
+  nth-index [] = refl
+  nth-index (e ∷ es) = go (same w (bytes (e .0))) (nth-index es)
+    where
+      go : (t : Bool) → nth es (index w (keys es)) ≡ named es w text at
+          → nth (e ∷ es) (if t 0 (suc (index w (keys es)))) ≡ if t (matched (e .1) at) (named es w text at)
+      go true f = rw (lt-ltb 0 (suc (length es)) (omega arith))
+      go false f = rw (leb·suc-suc (suc (index w (keys es))) (length es)) f
+
+  -- The index n that `find_word` gives, for a table with the words of es.
+  module _ (es : List (String × A)) (ws : List (List ℕ)) (g : ws ≡ keys es) (n : ℕ) (e : n ≡ index w ws) where
+    at-index : nth es n ≡ named es w text at
+    at-index = rw (e, g) (nth-index es)
+
+    pub named-in : n < length es → matched (getD (values es) n d) at ≡ named es w text at
+    unfolding nth
+    named-in h = rw (lt-ltb n (length es) h) at at-index
+
+    pub named-out : length es ≤ n → none ≡ named es w text at
+    unfolding nth
+    named-out h = rw (le-ltb n (length es) h) at at-index
+
+-- A word that was read, and its value in a table: `find_word` gave n for it.
+module _ {A : Type 0} (es : List (String × A)) (ws : List (List ℕ)) (g : ws ≡ keys es) (d : A) (text : List ℕ) (start end : ℕ) (r : ReadPlace) (p : Answer (List ℕ))
+    (e : sliceAnswer text start r ≡ p) (k : r ≡ place.Match end) (n : ℕ) (f : n ≡ index (slice start end text) ws) where
+  pub word-in : n < length es → matched (getD (values es) n d) end ≡ andThen p (λ w m. named es w text m)
+  word-in h = slice-match p text start r e (λ w m. named es w text m) end _ k (named-in d (slice start end text) text end es ws g n f h)
+
+  pub word-out : length es ≤ n → none ≡ andThen p (λ w m. named es w text m)
+  word-out h = slice-match p text start r e (λ w m. named es w text m) end none k (named-out d (slice start end text) text end es ws g n f h)
+
+-- An i32 that is read out of a constant table is the entry: each entry is what its 32 bits say, which is computed once for the table.
+pub i32-entry : (l : List ℤ) (k : ℕ) → map (λ z. toZ w32 (ofZ w32 z)) l ≡ l → toZ w32 (ofZ w32 (getD l k (pos 0))) ≡ getD l k (pos 0)
+i32-entry l k e = sym (getD-map l k) ∙ ap (λ (m : List ℤ). getD m k (pos 0)) e
+  where
+    getD-map : (m : List ℤ) (i : ℕ) → getD (map (λ z. toZ w32 (ofZ w32 z)) m) i (pos 0) ≡ toZ w32 (ofZ w32 (getD m i (pos 0)))
+    getD-map [] i = refl
+    getD-map (x ∷ xs) zero = refl
+    getD-map (x ∷ xs) (suc i) = getD-map xs i

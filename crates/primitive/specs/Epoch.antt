@@ -18,10 +18,13 @@ padded (suc k) (d ∷ ds) = d ∷ padded k ds
 unfoldable pub nanoseconds : List ℕ → ℕ
 nanoseconds ds = decimal (padded 9 ds)
 
+unfoldable pub point-or-comma : Reader (Unit {0})
+point-or-comma = char "." <|> char ","
+
 -- 29.3: "possibly followed by '.' or ',' and a fraction containing one or more digits"
 unfoldable pub fraction : Reader ℕ
 fraction = do
-  char "." <|> char ","
+  point-or-comma
   ds ← dec-uint-str
   pure (nanoseconds ds)
 

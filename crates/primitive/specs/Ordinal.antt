@@ -27,12 +27,17 @@ text-ordinal = do
   w ← spaced alpha1
   named ordinals w
 
--- 29.7: "an optionally signed number. Unsigned numbers are taken as positively signed." The number is below 2 to the power 31.
+-- a number behind space, below 2 to the power 31, with the sign in front of it
+unfoldable pub signed-number : Bool → Reader ℤ
+signed-number negative = do
+  n ← spaced (dec-uint 2147483647)
+  pure (signed negative n)
+
+-- 29.7: "an optionally signed number. Unsigned numbers are taken as positively signed."
 unfoldable pub number-ordinal : Reader ℤ
 number-ordinal = do
   negative ← spaced (optional false sign-char)
-  n ← spaced (dec-uint 2147483647)
-  pure (signed negative n)
+  signed-number negative
 
 unfoldable pub ordinal : Reader ℤ
 ordinal = text-ordinal <|> number-ordinal
