@@ -118,12 +118,24 @@ module _ (p : Answer ℕ) (r : ReadU8) (e : u8Answer r ≡ p) {B : Type 0} (f : 
   pub u8-none : r ≡ u8.NoMatch → none ≡ andThen p f
   u8-none k = then-none f p (sym e ∙ ap u8Answer k)
 
+  pub u8-first-then : (d : Answer ℕ) (v n : ℕ) (q : Answer B) → r ≡ u8.Match v n → q ≡ f v n → q ≡ andThen (orElse p d) f
+  u8-first-then d v n q k g = first-then f p d v n q (sym e ∙ ap u8Answer k) g
+
+  pub u8-else-then : (d : Answer ℕ) (q : Answer B) → r ≡ u8.NoMatch → q ≡ andThen d f → q ≡ andThen (orElse p d) f
+  u8-else-then d q k g = else-then f p d q (sym e ∙ ap u8Answer k) g
+
 module _ (p : Answer ℕ) (r : ReadU32) (e : u32Answer r ≡ p) {B : Type 0} (f : ℕ → ℕ → Answer B) where
   pub u32-match : (v n : ℕ) (q : Answer B) → r ≡ u32.Match v n → q ≡ f v n → q ≡ andThen p f
   u32-match v n q k g = then-matched f p v n q (sym e ∙ ap u32Answer k) g
 
   pub u32-none : r ≡ u32.NoMatch → none ≡ andThen p f
   u32-none k = then-none f p (sym e ∙ ap u32Answer k)
+
+  pub u32-first-then : (d : Answer ℕ) (v n : ℕ) (q : Answer B) → r ≡ u32.Match v n → q ≡ f v n → q ≡ andThen (orElse p d) f
+  u32-first-then d v n q k g = first-then f p d v n q (sym e ∙ ap u32Answer k) g
+
+  pub u32-else-then : (d : Answer ℕ) (q : Answer B) → r ≡ u32.NoMatch → q ≡ andThen d f → q ≡ andThen (orElse p d) f
+  u32-else-then d q k g = else-then f p d q (sym e ∙ ap u32Answer k) g
 
 module _ (p : Answer ℕ) (r : ReadU64) (e : u64Answer r ≡ p) where
   module _ {B : Type 0} (f : ℕ → ℕ → Answer B) where
@@ -168,4 +180,4 @@ module _ (p : Answer SecAndNsec) (r : ReadSecAndNsec) (e : secAndNsecAnswer r �
   pub seconds-none : r ≡ seconds.NoMatch → none ≡ andThen p f
   seconds-none k = then-none f p (sym e ∙ ap secAndNsecAnswer k)
 
-pub ruleset chain = (place-match, place-none, place-then-first, place-then-else, place-first-then, place-else-then, place-first, place-else, place-is, place-is-none, slice-match, slice-none, sign-match, sign-none, sign-first-then, sign-else-then, u8-match, u8-none, u32-match, u32-none, u64-match, u64-none, u64-is, u64-is-none, i32-match, i32-none, i32-first-then, i32-else-then, i32-first, i32-else, seconds-match, seconds-none, needs)
+pub ruleset chain = (place-match, place-none, place-then-first, place-then-else, place-first-then, place-else-then, place-first, place-else, place-is, place-is-none, slice-match, slice-none, sign-match, sign-none, sign-first-then, sign-else-then, u8-match, u8-none, u8-first-then, u8-else-then, u32-match, u32-none, u32-first-then, u32-else-then, u64-match, u64-none, u64-is, u64-is-none, i32-match, i32-none, i32-first-then, i32-else-then, i32-first, i32-else, seconds-match, seconds-none, needs)

@@ -105,10 +105,15 @@ module _ (s : List ℕ) (acc i to left v : ℕ) (inv : nanoFrom acc s i to left 
 
 -- the sum stays small
 module _ (acc left : ℕ) (m : left ≤ 9) (b : acc < 10 ^ (9 - left)) (h : 0 < left) where
-  small : acc < 100000000
+  pub small : acc < 100000000
   small = let z = pow-le-pow-right {n = 10} (omega arith) {i = 9 - left} {j = 8} (omega arith) in omega arith
 
   pub next-small : (d : ℕ) → d ≤ 9 → acc * 10 + d < 10 ^ (9 - (left - 1))
   next-small d k =
       let z : 9 - (left - 1) ≡ suc (9 - left) = omega arith in
       rw (z, pow-suc 10 (9 - left)) (omega arith)
+
+  pub next-small-zero : acc * 10 < 10 ^ (9 - (left - 1))
+  next-small-zero = let z = next-small 0 (omega arith) in omega arith
+
+pub ruleset fractions = (str-end, digit-within, digit-limit, nano-start, nano-done, nano-zero, nano-digit, next-small, chain)
