@@ -7,7 +7,7 @@ use mathlib.Core.Bool.{Bool, true, false}
 use lib.IntN.{ℤ, pos, negsuc}
 use Rattle.primitive.specs.Answer.{Answer, Reader, matched, none}
 use Rattle.primitive.specs.Text.{lower, lowered, bytes, blank, digit, letter, run, past, some, starts, tag, quoted}
-use Rattle.primitive.specs.Primitive.{multispace0, multispace1, closing, inside, comment, no-digit, sign-char, ignored-hyphen-or-plus, ignored, skip, space, decimal, parse-uint, dec-uint-str, dec-uint, colon, plus-or-minus, alpha1, same, named, words, index}
+use Rattle.primitive.specs.Primitive.{multispace0, multispace1, closing, inside, comment, no-digit, sign, ignored-hyphen-or-plus, ignored, skip, space, decimal, parse-uint, dec-uint-str, dec-uint, colon, plus-or-minus, alpha1, same, named, words, index}
 use Rattle.primitive.specs.Epoch.{padded, nanoseconds, point-or-comma, fraction, sec-and-nsec}
 use Rattle.primitive.specs.Ordinal.{signed, signed-number, ordinals, text-ordinal, number-ordinal, ordinal}
 
@@ -23,7 +23,7 @@ spaceOf text = space (lowered (bytes text)) 0
 spaces : (spaceOf "" ≡ 0) × (spaceOf " \t\n\r 12" ≡ 5) × (spaceOf "(c) 12" ≡ 4) × (spaceOf "- (c)  12" ≡ 7)
     × (spaceOf "(a(b)c)d" ≡ 7) × (spaceOf "(a(b)c" ≡ 0) × (spaceOf "(a)(b" ≡ 3) × (spaceOf "-- 12" ≡ 1) × (spaceOf "- 12" ≡ 0)
     × (spaceOf "+-+x" ≡ 3) × (spaceOf " - " ≡ 3) × (spaceOf "-(c)12" ≡ 4)
-unfolding lower lowered bytes blank digit run past starts tag closing inside comment no-digit sign-char ignored-hyphen-or-plus ignored multispace0 skip space
+unfolding lower lowered bytes blank digit run past starts tag closing inside comment no-digit sign ignored-hyphen-or-plus ignored multispace0 skip space
 spaces = (refl, refl, refl, refl, refl, refl, refl, refl, refl, refl, refl, refl)
 
 -- Numbers: leading zeros count for nothing; the limit is the last number read.
@@ -40,7 +40,7 @@ singles : (reads (quoted "ago") "AGOX" ≡ matched tt 3) × (reads (quoted "ago"
     × (reads colon "x:" ≡ none) × (reads plus-or-minus " -1" ≡ matched true 2) × (reads plus-or-minus "+ 1" ≡ matched false 1)
     × (reads plus-or-minus "- x" ≡ none) × (reads multispace1 "" ≡ none)
     × (reads multispace1 " \tx" ≡ matched (32 ∷ 9 ∷ []) 2) × (reads alpha1 "aZ1" ≡ matched (97 ∷ 122 ∷ []) 2)
-unfolding lower lowered bytes blank digit letter run past some starts tag closing inside comment no-digit sign-char ignored-hyphen-or-plus ignored multispace0 multispace1 skip space colon plus-or-minus alpha1
+unfolding lower lowered bytes blank digit letter run past some starts tag closing inside comment no-digit sign ignored-hyphen-or-plus ignored multispace0 multispace1 skip space colon plus-or-minus alpha1
 singles = (refl, refl, refl, refl, refl, refl, refl, refl, refl, refl)
 
 -- Fractions: nine digits count; a point without a digit is left unread.
@@ -60,7 +60,7 @@ ordinal-numbers : (reads ordinal "Last" ≡ matched (negsuc 0) 4) × (reads ordi
     × (reads ordinal "- 12" ≡ matched (negsuc 11) 4)
     × (reads ordinal "-(c)12" ≡ matched (pos 12) 6) × (reads ordinal "+2147483647" ≡ matched (pos 2147483647) 11)
     × (reads ordinal "-2147483648" ≡ none) × (reads ordinal "-0" ≡ matched (pos 0) 2) × (reads ordinal "--3" ≡ matched (negsuc 2) 3)
-unfolding lower lowered bytes blank digit letter run past some starts tag closing inside comment no-digit sign-char ignored-hyphen-or-plus ignored multispace0 skip space decimal parse-uint dec-uint-str dec-uint alpha1 same named signed signed-number ordinals text-ordinal number-ordinal ordinal
+unfolding lower lowered bytes blank digit letter run past some starts tag closing inside comment no-digit sign ignored-hyphen-or-plus ignored multispace0 skip space decimal parse-uint dec-uint-str dec-uint alpha1 same named signed signed-number ordinals text-ordinal number-ordinal ordinal
 ordinal-numbers = (refl, refl, refl, refl, refl, refl, refl, refl, refl, refl, refl)
 
 -- A table as bytes: each word has a blank behind it; what stands behind the last blank is no word.

@@ -12,7 +12,7 @@ use lib.Dec.{ltb, eqb, leb}
 use Prim.Native.String.{String}
 use Rattle.primitive.specs.Answer.{Answer, Reader, matched, none, stop, if, andThen, orElse, _>>=_, _>>_, _<|>_, pure, value, optional, verify}
 use Rattle.primitive.specs.Text.{bytes, blank, digit, run, past, some, starts, tag}
-use Rattle.primitive.specs.Primitive.{multispace0, multispace1, inside, comment, no-digit, sign-char, ignored-hyphen-or-plus, ignored, behind, skip, space, spaced, decimal, parse-uint, dec-uint-str, dec-uint, colon, plus-or-minus, alpha1, same, named}
+use Rattle.primitive.specs.Primitive.{multispace0, multispace1, inside, comment, no-digit, sign, ignored-hyphen-or-plus, ignored, behind, skip, space, spaced, decimal, parse-uint, dec-uint-str, dec-uint, colon, plus-or-minus, alpha1, same, named}
 use Rattle.primitive.specs.Epoch.{point-or-comma, nanoseconds, fraction, sec-and-nsec}
 use Rattle.primitive.specs.Ordinal.{ordinals, signed, signed-number, text-ordinal, number-ordinal, ordinal}
 use Rattle.primitive.proofs.Comments.{inside-within}
@@ -155,8 +155,8 @@ pub no-digit-forward : Forward no-digit
 unfolding no-digit
 no-digit-forward text at = if-ends text at (digit (getD text at 0)) _ _ (none-ends text at) (pure-forward tt text at)
 
-pub sign-forward : Forward sign-char
-unfolding sign-char
+pub sign-forward : Forward sign
+unfolding sign
 sign-forward = or-forward _ _ (value-forward false _ (tag-forward _)) (value-forward true _ (tag-forward _))
 
 pub ignored-sign-forward : Forward ignored-hyphen-or-plus

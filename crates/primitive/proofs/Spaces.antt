@@ -10,7 +10,7 @@ use mathlib.Core.Bool.{Bool, true, false}
 use lib.ListN.{length, getD, drop, drop-of-length-le, List·getD-eq-default}
 use Rattle.primitive.specs.Answer.{Answer, matched, none, stop, if, andThen, orElse}
 use Rattle.primitive.specs.Text.{lower, lowered, blank, digit, past, starts, tag}
-use Rattle.primitive.specs.Primitive.{multispace0, inside, comment, no-digit, sign-char, ignored-hyphen-or-plus, ignored, behind, skip, space, placeAnswer}
+use Rattle.primitive.specs.Primitive.{multispace0, inside, comment, no-digit, sign, ignored-hyphen-or-plus, ignored, behind, skip, space, placeAnswer}
 use Rattle.primitive.specs.declared.ReadPlace.{ReadPlace}
 use Rattle.primitive.specs.declared.ReadPlace.the-variants as place
 use Rattle.primitive.proofs.Lowered.{length-lowered, getD-lowered, beyond}
@@ -32,8 +32,8 @@ comment-behind text at n = go (tag (40 ∷ []) text at) refl
     go none e h = let z : _≡_ {A = ℕ} 0 1 = cc in omega arith
     go stop e h = let z : _≡_ {A = ℕ} 0 1 = cc in omega arith
 
-sign-behind : (text : List ℕ) (at n : ℕ) (v : Bool) → sign-char text at ≡ matched v n → at < n
-unfolding sign-char
+sign-behind : (text : List ℕ) (at n : ℕ) (v : Bool) → sign text at ≡ matched v n → at < n
+unfolding sign
 sign-behind text at n v = go (tag (43 ∷ []) text at) (tag (45 ∷ []) text at) refl refl
   where
     go : (a b : Answer (Unit {0})) → tag (43 ∷ []) text at ≡ a → tag (45 ∷ []) text at ≡ b
@@ -46,9 +46,9 @@ sign-behind text at n v = go (tag (43 ∷ []) text at) (tag (45 ∷ []) text at)
 
 ignored-sign-behind : (text : List ℕ) (at n : ℕ) → ignored-hyphen-or-plus text at ≡ matched tt n → at < n
 unfolding ignored-hyphen-or-plus
-ignored-sign-behind text at n = go (sign-char text at) refl
+ignored-sign-behind text at n = go (sign text at) refl
   where
-    go : (a : Answer Bool) → sign-char text at ≡ a → andThen a (λ v m. andThen (multispace0 text m) (λ u k. no-digit text k)) ≡ matched tt n → at < n
+    go : (a : Answer Bool) → sign text at ≡ a → andThen a (λ v m. andThen (multispace0 text m) (λ u k. no-digit text k)) ≡ matched tt n → at < n
     go (matched v m) e h =
         let z = sign-behind text at m v e in
         let y = then-forward _ _ multispace0-forward (λ u. no-digit-forward) text m tt n h in
@@ -70,7 +70,7 @@ ignored-behind text at n = go (comment text at) refl
 
 -- at the end of the text nothing is ignored
 ignored-end : (text : List ℕ) (at : ℕ) → length text ≤ at → ignored text at ≡ none
-unfolding ignored comment ignored-hyphen-or-plus sign-char tag starts
+unfolding ignored comment ignored-hyphen-or-plus sign tag starts
 ignored-end text at h = rw (drop-of-length-le text h)
 
 -- two limits that reach from `at` to the end of the text give the same place

@@ -5,7 +5,7 @@ use mathlib.Core.List.{List, [], _∷_}
 use mathlib.Core.Bool.{Bool, true, false}
 use lib.IntN.{ℤ, pos, negℤ}
 use Rattle.primitive.specs.Answer.{Answer, Reader, matched, none, _>>=_, _>>_, _<|>_, pure, optional}
-use Rattle.primitive.specs.Primitive.{spaced, sign-char, dec-uint, alpha1, named}
+use Rattle.primitive.specs.Primitive.{spaced, sign, dec-uint, alpha1, named}
 use Rattle.primitive.specs.declared.ordinal.ReadI32.{ReadI32}
 use Rattle.primitive.specs.declared.ordinal.ReadI32.the-variants as got
 
@@ -36,7 +36,7 @@ signed-number negative = do
 -- 29.7: "an optionally signed number. Unsigned numbers are taken as positively signed."
 unfoldable pub number-ordinal : Reader ℤ
 number-ordinal = do
-  negative ← spaced (optional false sign-char)
+  negative ← spaced (optional false sign)
   signed-number negative
 
 unfoldable pub ordinal : Reader ℤ

@@ -12,7 +12,7 @@ use Rattle.primitive.specs.Text.{bytes, blank, digit, letter, past, some
 use Rattle.primitive.specs.declared.ReadPlace.{ReadPlace}
 use Rattle.primitive.specs.declared.ReadPlace.the-variants as place
 use Rattle.primitive.specs.declared.ReadSign.{ReadSign}
-use Rattle.primitive.specs.declared.ReadSign.the-variants as sign
+use Rattle.primitive.specs.declared.ReadSign.the-variants as sign-read
 use Rattle.primitive.specs.declared.ReadU8.{ReadU8}
 use Rattle.primitive.specs.declared.ReadU8.the-variants as u8
 use Rattle.primitive.specs.declared.ReadU32.{ReadU32}
@@ -55,14 +55,14 @@ unfoldable pub no-digit : Reader (Unit {0})
 no-digit text at = if (digit (getD text at 0)) none (matched tt at)
 
 -- true for minus
-unfoldable pub sign-char : Reader Bool
-sign-char = value false (char "+") <|> value true (char "-")
+unfoldable pub sign : Reader Bool
+sign = value false (char "+") <|> value true (char "-")
 
 -- 29.1: "Hyphens not followed by a digit are currently ignored." Document 01, items/primitive.rs: so is a plus, and blanks may
 -- stand between the sign and the digit.
 unfoldable pub ignored-hyphen-or-plus : Reader (Unit {0})
 ignored-hyphen-or-plus = do
-  sign-char
+  sign
   multispace0
   no-digit
 
@@ -116,7 +116,7 @@ unfoldable pub colon : Reader (Unit {0})
 colon = spaced (char ":")
 
 unfoldable pub plus-or-minus : Reader Bool
-plus-or-minus = spaced sign-char
+plus-or-minus = spaced sign
 
 -- ---- words
 
@@ -162,8 +162,8 @@ sliceAnswer text at (place.Match n) = matched (slice at n text) n
 sliceAnswer text at place.NoMatch = none
 
 abbrev pub signAnswer : ReadSign → Answer Bool
-signAnswer (sign.Match v n) = matched v n
-signAnswer sign.NoMatch = none
+signAnswer (sign-read.Match v n) = matched v n
+signAnswer sign-read.NoMatch = none
 
 abbrev pub u8Answer : ReadU8 → Answer ℕ
 u8Answer (u8.Match v n) = matched v n

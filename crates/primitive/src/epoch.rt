@@ -4,7 +4,6 @@
 use crate::ReadPlace;
 use crate::ReadU32;
 use crate::ReadU64;
-
 ghost use mathlib.Core.Path.{_≡_};
 ghost use lib.Seq.{slice};
 ghost use Rattle.primitive.specs.Answer.{_<|>_};

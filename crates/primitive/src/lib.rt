@@ -13,7 +13,7 @@ ghost use Prim.Native.Nat.{_-_, _≤_, min};
 ghost use lib.ListN.{length};
 ghost use lib.Seq.{slice};
 ghost use Rattle.primitive.specs.Text.{lower, lowered, blank, digit, letter, past, byte, tag};
-ghost use Rattle.primitive.specs.Primitive.{multispace1, comment, sign-char, ignored-hyphen-or-plus, ignored, space, spaced, parse-uint, dec-uint-str, dec-uint, colon, plus-or-minus, alpha1, words, index, placeAnswer, sliceAnswer, signAnswer, u8Answer, u32Answer, u64Answer};
+ghost use Rattle.primitive.specs.Primitive.{multispace1, comment, sign, ignored-hyphen-or-plus, ignored, space, spaced, parse-uint, dec-uint-str, dec-uint, colon, plus-or-minus, alpha1, words, index, placeAnswer, sliceAnswer, signAnswer, u8Answer, u32Answer, u64Answer};
 
 // Where a match ends.
 pub enum ReadPlace {
@@ -303,7 +303,7 @@ pub fn plus_or_minus(s: &[u8], at: usize) -> ReadSign
 
 // A plus or minus.
 pub fn sign(s: &[u8], at: usize) -> ReadSign
-    ensures { λ r. ⌜ signAnswer r ≡ sign-char (lowered (now (s .entry))) at ⌝ }
+    ensures { λ r. ⌜ signAnswer r ≡ sign (lowered (now (s .entry))) at ⌝ }
 {
     if let ReadPlace::Match(next) = byte(s, at, 43) {
         return ReadSign::Match(false, next);

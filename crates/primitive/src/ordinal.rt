@@ -3,7 +3,6 @@
 use crate::ReadPlace;
 use crate::ReadSign;
 use crate::ReadU64;
-
 ghost use mathlib.Core.Path.{_≡_};
 ghost use Prim.Native.Nat.{_<_, _^_};
 ghost use Rattle.primitive.specs.Text.{lowered};

@@ -1,3 +1,5 @@
+-- `comment` is its definition, by the bytes left, which fall at each call of itself. The loop's invariant: the comment ends where it does
+-- as seen from `i`. Assumes nothing.
 use Rattle.primitive.proofs.Spaces.{comments}
 use Rattle.primitive.specs.Primitive.{comment, inside}
 use Prim.Native.Nat.{_-_}

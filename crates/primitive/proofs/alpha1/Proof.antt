@@ -1,11 +1,9 @@
+-- `alpha1` reads one letter or more, from what `letters` ensures. Assumes nothing.
 use Rattle.primitive.proofs.Runs.{runs}
 use Rattle.primitive.specs.Primitive.{alpha1}
 use borrow.Author.Needs.{needs}
 use Rattle.primitive.proofs.alpha1.Statement.{statement}
 use Rattle.primitive.proofs.alpha1.Tie as tie
-use Rattle.primitive.proofs.alpha1.Reads as reads
-use Rattle.primitive.proofs.alpha1.Lts as lts
-use Rattle.primitive.proofs.letters.Reads as letters-reads
 
 letters-requires : tie.Need-letters-requires
 letters-requires c κs = search needs

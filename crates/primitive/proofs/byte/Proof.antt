@@ -1,10 +1,8 @@
+-- `byte` is a tag of one byte, by its tests. Assumes nothing.
 use Rattle.primitive.proofs.Tags.{tags}
 use borrow.Author.Needs.{needs}
 use Rattle.primitive.proofs.byte.Statement.{statement}
 use Rattle.primitive.proofs.byte.Tie as tie
-use Rattle.primitive.proofs.byte.Reads as reads
-use Rattle.primitive.proofs.byte.Lts as lts
-use Rattle.primitive.proofs.to_lower.Reads as to-lower-reads
 
 shared-slice-read-to-lower : tie.Need-shared-slice-read-to-lower
 shared-slice-read-to-lower c = search needs

@@ -1,10 +1,8 @@
+-- `dec_u32` is `dec-uint` at 4294967295; the value fits by the one law on width. Assumes nothing.
 use Rattle.primitive.proofs.Numbers.{numbers}
 use borrow.Author.Needs.{needs}
 use Rattle.primitive.proofs.dec_u32.Statement.{statement}
 use Rattle.primitive.proofs.dec_u32.Tie as tie
-use Rattle.primitive.proofs.dec_u32.Reads as reads
-use Rattle.primitive.proofs.dec_u32.Lts as lts
-use Rattle.primitive.proofs.dec_uint.Reads as dec-uint-reads
 
 dec-uint-requires : tie.Need-dec-uint-requires
 dec-uint-requires c κs = search needs

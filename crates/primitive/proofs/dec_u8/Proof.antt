@@ -1,10 +1,8 @@
+-- `dec_u8` is `dec-uint` at 255; the value fits by the one law on width. Assumes nothing.
 use Rattle.primitive.proofs.Numbers.{numbers}
 use borrow.Author.Needs.{needs}
 use Rattle.primitive.proofs.dec_u8.Statement.{statement}
 use Rattle.primitive.proofs.dec_u8.Tie as tie
-use Rattle.primitive.proofs.dec_u8.Reads as reads
-use Rattle.primitive.proofs.dec_u8.Lts as lts
-use Rattle.primitive.proofs.dec_uint.Reads as dec-uint-reads
 
 dec-uint-requires : tie.Need-dec-uint-requires
 dec-uint-requires c κs = search needs

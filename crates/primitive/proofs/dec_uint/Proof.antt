@@ -1,12 +1,9 @@
+-- `dec_uint` is its definition's chain: digits, then their value. Assumes nothing.
 use Rattle.primitive.proofs.Chain.{chain}
 use Rattle.primitive.specs.Primitive.{dec-uint}
 use borrow.Author.Needs.{needs}
 use Rattle.primitive.proofs.dec_uint.Statement.{statement}
 use Rattle.primitive.proofs.dec_uint.Tie as tie
-use Rattle.primitive.proofs.dec_uint.Reads as reads
-use Rattle.primitive.proofs.dec_uint.Lts as lts
-use Rattle.primitive.proofs.dec_uint_str.Reads as dec-uint-str-reads
-use Rattle.primitive.proofs.parse_uint.Reads as parse-uint-reads
 
 dec-uint-str-requires : tie.Need-dec-uint-str-requires
 dec-uint-str-requires c κs = search needs

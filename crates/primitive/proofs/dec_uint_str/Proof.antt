@@ -1,11 +1,9 @@
+-- `dec_uint_str` reads one digit or more, from what `digits` ensures. Assumes nothing.
 use Rattle.primitive.proofs.Runs.{runs}
 use Rattle.primitive.specs.Primitive.{dec-uint-str}
 use borrow.Author.Needs.{needs}
 use Rattle.primitive.proofs.dec_uint_str.Statement.{statement}
 use Rattle.primitive.proofs.dec_uint_str.Tie as tie
-use Rattle.primitive.proofs.dec_uint_str.Reads as reads
-use Rattle.primitive.proofs.dec_uint_str.Lts as lts
-use Rattle.primitive.proofs.digits.Reads as digits-reads
 
 digits-requires : tie.Need-digits-requires
 digits-requires c κs = search needs

@@ -1,3 +1,4 @@
+-- `digits` ends where the run of digits does. The loop's invariant: from `i` on the run ends where it does from `at` on. Assumes nothing.
 use Rattle.primitive.proofs.Runs.{runs}
 use mathlib.Core.Path.{_≡_}
 use Rattle.primitive.specs.Text.{digit, lowered, past}
@@ -5,10 +6,6 @@ use Prim.Native.Nat.{_-_}
 use lib.ListN.{length}
 use Rattle.primitive.proofs.digits.Statement.{statement}
 use Rattle.primitive.proofs.digits.Tie as tie
-use Rattle.primitive.proofs.digits.Reads as reads
-use Rattle.primitive.proofs.digits.Lts as lts
-use Rattle.primitive.proofs.is_digit.Reads as is-digit-reads
-use Rattle.primitive.proofs.to_lower.Reads as to-lower-reads
 
 abbrev Inv-loop : tie.InvT-loop
 Inv-loop s at i₀ i = past digit (lowered s) i ≡ past digit (lowered s) at

@@ -1,11 +1,8 @@
+-- `find_word` is the index of the word, whose places are brought into the text first. Assumes nothing.
 use Rattle.primitive.proofs.Tables.{scans}
 use borrow.Author.Needs.{needs}
 use Rattle.primitive.proofs.find_word.Statement.{statement}
 use Rattle.primitive.proofs.find_word.Tie as tie
-use Rattle.primitive.proofs.find_word.Reads as reads
-use Rattle.primitive.proofs.find_word.Lts as lts
-use Rattle.primitive.proofs.min.Reads as min-reads
-use Rattle.primitive.proofs.scan_table.Reads as scan-table-reads
 
 min-requires : tie.Need-min-requires
 min-requires c κs = search needs

@@ -1,12 +1,9 @@
+-- `ignored` is a comment or else an ignored sign, from what their readers ensure. Assumes nothing.
 use Rattle.primitive.proofs.Chain.{chain}
 use Rattle.primitive.specs.Primitive.{ignored}
 use borrow.Author.Needs.{needs}
 use Rattle.primitive.proofs.ignored.Statement.{statement}
 use Rattle.primitive.proofs.ignored.Tie as tie
-use Rattle.primitive.proofs.ignored.Reads as reads
-use Rattle.primitive.proofs.ignored.Lts as lts
-use Rattle.primitive.proofs.comment.Reads as comment-reads
-use Rattle.primitive.proofs.ignored_hyphen_or_plus.Reads as ignored-hyphen-or-plus-reads
 
 comment-requires : tie.Need-comment-requires
 comment-requires c κs = search needs

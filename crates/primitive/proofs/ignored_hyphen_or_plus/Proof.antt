@@ -1,14 +1,9 @@
+-- `ignored_hyphen_or_plus` is its definition's chain: a sign, blanks, no digit. Assumes nothing.
 use Rattle.primitive.proofs.Spaces.{spaces}
 use Rattle.primitive.specs.Primitive.{ignored-hyphen-or-plus}
 use borrow.Author.Needs.{needs}
 use Rattle.primitive.proofs.ignored_hyphen_or_plus.Statement.{statement}
 use Rattle.primitive.proofs.ignored_hyphen_or_plus.Tie as tie
-use Rattle.primitive.proofs.ignored_hyphen_or_plus.Reads as reads
-use Rattle.primitive.proofs.ignored_hyphen_or_plus.Lts as lts
-use Rattle.primitive.proofs.is_digit.Reads as is-digit-reads
-use Rattle.primitive.proofs.multispace0.Reads as multispace0-reads
-use Rattle.primitive.proofs.sign.Reads as sign-reads
-use Rattle.primitive.proofs.to_lower.Reads as to-lower-reads
 
 sign-requires : tie.Need-sign-requires
 sign-requires c κs = search needs

@@ -1,9 +1,8 @@
+-- `is_letter` is `letter`, by its tests. Assumes nothing.
 use Rattle.primitive.proofs.Tests.{tests}
 use Rattle.primitive.specs.Text.{letter}
 use Rattle.primitive.proofs.is_letter.Statement.{statement}
 use Rattle.primitive.proofs.is_letter.Tie as tie
-use Rattle.primitive.proofs.is_letter.Reads as reads
-use Rattle.primitive.proofs.is_letter.Lts as lts
 
 returns : tie.Need-returns
 unfolding letter

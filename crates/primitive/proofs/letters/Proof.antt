@@ -1,3 +1,4 @@
+-- `letters` ends where the run of letters does. The loop's invariant: from `i` on the run ends where it does from `at` on. Assumes nothing.
 use Rattle.primitive.proofs.Runs.{runs}
 use mathlib.Core.Path.{_≡_}
 use Rattle.primitive.specs.Text.{letter, lowered, past}
@@ -5,10 +6,6 @@ use Prim.Native.Nat.{_-_}
 use lib.ListN.{length}
 use Rattle.primitive.proofs.letters.Statement.{statement}
 use Rattle.primitive.proofs.letters.Tie as tie
-use Rattle.primitive.proofs.letters.Reads as reads
-use Rattle.primitive.proofs.letters.Lts as lts
-use Rattle.primitive.proofs.is_letter.Reads as is-letter-reads
-use Rattle.primitive.proofs.to_lower.Reads as to-lower-reads
 
 abbrev Inv-loop : tie.InvT-loop
 Inv-loop s at i₀ i = past letter (lowered s) i ≡ past letter (lowered s) at

@@ -1,3 +1,4 @@
+-- `multispace0` ends where the run of blanks does. The loop's invariant: from `i` on the run ends where it does from `at` on. Assumes nothing.
 use Rattle.primitive.proofs.Runs.{runs}
 use mathlib.Core.Path.{_≡_}
 use Rattle.primitive.specs.Text.{blank, lowered, past}
@@ -5,10 +6,6 @@ use Prim.Native.Nat.{_-_}
 use lib.ListN.{length}
 use Rattle.primitive.proofs.multispace0.Statement.{statement}
 use Rattle.primitive.proofs.multispace0.Tie as tie
-use Rattle.primitive.proofs.multispace0.Reads as reads
-use Rattle.primitive.proofs.multispace0.Lts as lts
-use Rattle.primitive.proofs.is_blank.Reads as is-blank-reads
-use Rattle.primitive.proofs.to_lower.Reads as to-lower-reads
 
 abbrev Inv-loop : tie.InvT-loop
 Inv-loop s at i₀ i = past blank (lowered s) i ≡ past blank (lowered s) at

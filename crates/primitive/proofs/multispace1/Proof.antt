@@ -1,11 +1,9 @@
+-- `multispace1` reads one blank or more, from what `multispace0` ensures. Assumes nothing.
 use Rattle.primitive.proofs.Runs.{runs}
 use Rattle.primitive.specs.Primitive.{multispace1}
 use borrow.Author.Needs.{needs}
 use Rattle.primitive.proofs.multispace1.Statement.{statement}
 use Rattle.primitive.proofs.multispace1.Tie as tie
-use Rattle.primitive.proofs.multispace1.Reads as reads
-use Rattle.primitive.proofs.multispace1.Lts as lts
-use Rattle.primitive.proofs.multispace0.Reads as multispace0-reads
 
 multispace0-requires : tie.Need-multispace0-requires
 multispace0-requires c κs = search needs

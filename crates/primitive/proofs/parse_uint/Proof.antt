@@ -1,3 +1,4 @@
+-- `parse_uint` is its definition. The loop's invariant: `acc` with the digits from `i` on behind it has the value of all of them. Assumes nothing.
 use lib.Seq.{slice}
 use Rattle.primitive.proofs.Values.{values, grownFrom}
 use mathlib.Core.Path.{_≡_}
@@ -6,10 +7,6 @@ use Rattle.primitive.specs.Primitive.{decimal}
 use Rattle.primitive.specs.Text.{lowered}
 use Rattle.primitive.proofs.parse_uint.Statement.{statement}
 use Rattle.primitive.proofs.parse_uint.Tie as tie
-use Rattle.primitive.proofs.parse_uint.Reads as reads
-use Rattle.primitive.proofs.parse_uint.Lts as lts
-use Rattle.primitive.proofs.digit_value.Reads as digit-value-reads
-use Rattle.primitive.proofs.to_lower.Reads as to-lower-reads
 
 abbrev Inv-loop : tie.InvT-loop
 Inv-loop s from to max acc₀ i₀ acc i = (acc ≤ max) × (grownFrom acc s i to ≡ decimal (slice from to (lowered s)))

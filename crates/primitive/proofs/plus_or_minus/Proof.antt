@@ -1,11 +1,8 @@
+-- `plus_or_minus` reads at the place that `space` answers. Assumes nothing.
 use Rattle.primitive.specs.Primitive.{plus-or-minus}
 use borrow.Author.Needs.{needs}
 use Rattle.primitive.proofs.plus_or_minus.Statement.{statement}
 use Rattle.primitive.proofs.plus_or_minus.Tie as tie
-use Rattle.primitive.proofs.plus_or_minus.Reads as reads
-use Rattle.primitive.proofs.plus_or_minus.Lts as lts
-use Rattle.primitive.proofs.sign.Reads as sign-reads
-use Rattle.primitive.proofs.space.Reads as space-reads
 
 space-requires : tie.Need-space-requires
 space-requires c κs = search needs

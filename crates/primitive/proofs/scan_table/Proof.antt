@@ -1,3 +1,5 @@
+-- `scan_table` is the index of the word. The loop's invariant: what is left of the table, with the word that is gone through agreed up to `i`,
+-- leads to the index. Assumes nothing.
 use lib.Seq.{slice}
 use Rattle.primitive.proofs.Tables.{scans, scanFrom}
 use mathlib.Core.Path.{_≡_}
@@ -7,9 +9,6 @@ use lib.ListN.{length}
 use Rattle.primitive.specs.Text.{lowered}
 use Rattle.primitive.proofs.scan_table.Statement.{statement}
 use Rattle.primitive.proofs.scan_table.Tie as tie
-use Rattle.primitive.proofs.scan_table.Reads as reads
-use Rattle.primitive.proofs.scan_table.Lts as lts
-use Rattle.primitive.proofs.to_lower.Reads as to-lower-reads
 
 abbrev Inv-loop : tie.InvT-loop
 Inv-loop s at end table differs i₀ k₀ j₀ i k j = (k ≤ j) × (j ≤ length table) × (scanFrom s at end i k table j ≡ index (slice at end (lowered s)) (words table))

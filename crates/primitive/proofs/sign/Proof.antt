@@ -1,11 +1,9 @@
+-- `sign` is a plus or else a minus, from what `byte` ensures. Assumes nothing.
 use Rattle.primitive.proofs.Chain.{chain}
-use Rattle.primitive.specs.Primitive.{sign-char}
+use Rattle.primitive.specs.Primitive.{sign}
 use borrow.Author.Needs.{needs}
 use Rattle.primitive.proofs.sign.Statement.{statement}
 use Rattle.primitive.proofs.sign.Tie as tie
-use Rattle.primitive.proofs.sign.Reads as reads
-use Rattle.primitive.proofs.sign.Lts as lts
-use Rattle.primitive.proofs.byte.Reads as byte-reads
 
 byte-requires : tie.Need-byte-requires
 byte-requires c κs = search needs
@@ -14,7 +12,7 @@ enum-known-next : tie.Need-enum-known-next
 enum-known-next c = search needs
 
 returns : tie.Need-returns
-unfolding sign-char
+unfolding sign
 returns c = search chain
 
 enum-told : tie.Need-enum-told
@@ -30,11 +28,11 @@ enum-told-2 : tie.Need-enum-told-2
 enum-told-2 c = search needs
 
 returns-2 : tie.Need-returns-2
-unfolding sign-char
+unfolding sign
 returns-2 c = search chain
 
 returns-3 : tie.Need-returns-3
-unfolding sign-char
+unfolding sign
 returns-3 c = search chain
 
 pub sign-spec : {M : Type 1} → statement M

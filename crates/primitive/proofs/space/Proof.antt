@@ -1,3 +1,4 @@
+-- `space` ends where the definition's does. The loop's invariant: from `i` on, which no blank follows, the space ends where it does from `at` on. Assumes nothing.
 use Rattle.primitive.proofs.Spaces.{spaces, skipFrom}
 use mathlib.Core.Path.{_≡_}
 use Rattle.primitive.specs.Text.{lowered}
@@ -6,10 +7,6 @@ use Prim.Native.Nat.{_-_}
 use lib.ListN.{length}
 use Rattle.primitive.proofs.space.Statement.{statement}
 use Rattle.primitive.proofs.space.Tie as tie
-use Rattle.primitive.proofs.space.Reads as reads
-use Rattle.primitive.proofs.space.Lts as lts
-use Rattle.primitive.proofs.ignored.Reads as ignored-reads
-use Rattle.primitive.proofs.multispace0.Reads as multispace0-reads
 
 abbrev Inv-loop : tie.InvT-loop
 Inv-loop s at i₀ i = skipFrom s i ≡ space (lowered s) at

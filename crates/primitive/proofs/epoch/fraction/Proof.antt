@@ -1,13 +1,9 @@
+-- `fraction` is its definition's chain: a point or comma, then digits. Assumes nothing.
 use Rattle.primitive.proofs.Fractions.{fractions}
 use Rattle.primitive.specs.Epoch.{fraction}
 use borrow.Author.Needs.{needs}
 use Rattle.primitive.proofs.epoch.fraction.Statement.{statement}
 use Rattle.primitive.proofs.epoch.fraction.Tie as tie
-use Rattle.primitive.proofs.epoch.fraction.Reads as reads
-use Rattle.primitive.proofs.epoch.fraction.Lts as lts
-use Rattle.primitive.proofs.dec_uint_str.Reads as dec-uint-str-reads
-use Rattle.primitive.proofs.epoch.nanoseconds.Reads as nanoseconds-reads
-use Rattle.primitive.proofs.epoch.point_or_comma.Reads as point-or-comma-reads
 
 point-or-comma-requires : tie.Need-point-or-comma-requires
 point-or-comma-requires c κs = search needs

@@ -1,3 +1,5 @@
+-- `nanoseconds` is its definition. The loop's invariant: `acc` with the digits left behind it has the value of all nine, and is below 10 to the
+-- power of those passed. Assumes nothing.
 use borrow.Author.Needs.{needs}
 use native.Mathlib.Omega.{arith}
 use lib.Seq.{slice}
@@ -8,10 +10,6 @@ use Rattle.primitive.specs.Text.{lowered}
 use Rattle.primitive.specs.Epoch.{nanoseconds}
 use Rattle.primitive.proofs.epoch.nanoseconds.Statement.{statement}
 use Rattle.primitive.proofs.epoch.nanoseconds.Tie as tie
-use Rattle.primitive.proofs.epoch.nanoseconds.Reads as reads
-use Rattle.primitive.proofs.epoch.nanoseconds.Lts as lts
-use Rattle.primitive.proofs.digit_value.Reads as digit-value-reads
-use Rattle.primitive.proofs.to_lower.Reads as to-lower-reads
 
 abbrev Inv-loop : tie.InvT-loop
 Inv-loop s from to acc₀ i₀ left₀ acc i left = (left ≤ 9) × (from ≤ i) × (acc < 10 ^ (9 - left)) × (nanoFrom acc s i to left ≡ nanoseconds (slice from to (lowered s)))
@@ -26,7 +24,7 @@ mul-acc : tie.Need-mul-acc Inv-loop μ-loop
 mul-acc c = let h = small _ _ (c .before .before .loop .inv .0) (c .before .before .loop .inv .2) (c .before .loop-test .taken) in omega arith
 
 shared-slice-read-to-lower : tie.Need-shared-slice-read-to-lower Inv-loop μ-loop
-shared-slice-read-to-lower c = 
+shared-slice-read-to-lower c =
     let h = digit-within _ _ _ _ (c .before .before .before .before .before .pre) (c .before .before .before .loop .inv .1) (c .before .if1 .taken) in search needs
 
 to-lower-requires : tie.Need-to-lower-requires Inv-loop μ-loop
@@ -39,7 +37,7 @@ cast-acc : tie.Need-cast-acc Inv-loop μ-loop
 cast-acc c = search fractions
 
 add-acc : tie.Need-add-acc Inv-loop μ-loop
-add-acc c = 
+add-acc c =
     let h = small _ _ (c .before .before .before .before .before .loop .inv .0) (c .before .before .before .before .before .loop .inv .2) (c .before .before .before .before .loop-test .taken) in
     let g = digit-limit _ _ _ _ (c .before .before .before .before .before .before .before .pre) (c .before .before .before .before .before .loop .inv .1) (c .before .before .before .if1 .taken) _ _ (c .before .to-lower .ensures) (c .digit-value .ensures) in
     omega arith
@@ -54,13 +52,14 @@ loop-less : tie.Need-loop-less Inv-loop μ-loop
 loop-less c = search fractions
 
 loop-again : tie.Need-loop-again Inv-loop μ-loop
-loop-again c = 
+loop-again c =
     let within = digit-within _ _ _ _ (c .before .before .before .before .before .before .before .pre) (c .before .before .before .before .before .loop .inv .1) (c .before .before .before .if1 .taken) in
-    let limit = digit-limit _ _ _ _ (c .before .before .before .before .before .before .before .pre) (c .before .before .before .before .before .loop .inv .1) (c .before .before .before .if1 .taken) _ _ (c .before .to-lower .ensures) (c .digit-value .ensures) in
-    (search needs
-    , search needs
-    , next-small _ _ (c .before .before .before .before .before .loop .inv .0) (c .before .before .before .before .before .loop .inv .2) (c .before .before .before .before .loop-test .taken) _ limit
-    , nano-digit _ _ _ _ _ _ (c .before .before .before .before .before .loop .inv .3) (c .before .before .before .before .loop-test .taken) (c .before .before .before .if1 .taken) within _ _ (c .before .to-lower .ensures) (c .digit-value .ensures))
+    let limit = digit-limit _ _ _ _ (c .before .before .before .before .before .before .before .pre) (c .before .before .before .before .before .loop .inv .1) (c .before .before .before .if1 .taken) _ _ (c .before .to-lower .ensures) (c .digit-value .ensures) in (
+      search needs,
+      search needs,
+      next-small _ _ (c .before .before .before .before .before .loop .inv .0) (c .before .before .before .before .before .loop .inv .2) (c .before .before .before .before .loop-test .taken) _ limit,
+      nano-digit _ _ _ _ _ _ (c .before .before .before .before .before .loop .inv .3) (c .before .before .before .before .loop-test .taken) (c .before .before .before .if1 .taken) within _ _ (c .before .to-lower .ensures) (c .digit-value .ensures),
+    )
 
 mul-acc-2 : tie.Need-mul-acc-2 Inv-loop μ-loop
 mul-acc-2 c = let h = small _ _ (c .before .before .loop .inv .0) (c .before .before .loop .inv .2) (c .before .loop-test .taken) in omega arith
@@ -72,11 +71,12 @@ loop-less-2 : tie.Need-loop-less-2 Inv-loop μ-loop
 loop-less-2 c = search fractions
 
 loop-again-2 : tie.Need-loop-again-2 Inv-loop μ-loop
-loop-again-2 c = 
-    (search needs
-    , search needs
-    , next-small-zero _ _ (c .before .before .loop .inv .0) (c .before .before .loop .inv .2) (c .before .loop-test .taken)
-    , nano-zero _ _ _ _ _ _ (c .before .before .loop .inv .3) (c .before .loop-test .taken) (c .if1 .left))
+loop-again-2 c = (
+  search needs,
+  search needs,
+  next-small-zero _ _ (c .before .before .loop .inv .0) (c .before .before .loop .inv .2) (c .before .loop-test .taken),
+  nano-zero _ _ _ _ _ _ (c .before .before .loop .inv .3) (c .before .loop-test .taken) (c .if1 .left),
+)
 
 returns : tie.Need-returns Inv-loop μ-loop
 returns c = search fractions

@@ -1,11 +1,9 @@
+-- `point_or_comma` is a point or else a comma, from what `byte` ensures. Assumes nothing.
 use Rattle.primitive.proofs.Chain.{chain}
 use Rattle.primitive.specs.Epoch.{point-or-comma}
 use borrow.Author.Needs.{needs}
 use Rattle.primitive.proofs.epoch.point_or_comma.Statement.{statement}
 use Rattle.primitive.proofs.epoch.point_or_comma.Tie as tie
-use Rattle.primitive.proofs.epoch.point_or_comma.Reads as reads
-use Rattle.primitive.proofs.epoch.point_or_comma.Lts as lts
-use Rattle.primitive.proofs.byte.Reads as byte-reads
 
 byte-requires : tie.Need-byte-requires
 byte-requires c κs = search needs

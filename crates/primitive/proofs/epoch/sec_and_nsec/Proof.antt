@@ -1,12 +1,9 @@
+-- `sec_and_nsec` is its definition's chain: whole seconds, then a fraction or none. Assumes nothing.
 use Rattle.primitive.proofs.Chain.{chain}
 use Rattle.primitive.specs.Epoch.{sec-and-nsec}
 use borrow.Author.Needs.{needs}
 use Rattle.primitive.proofs.epoch.sec_and_nsec.Statement.{statement}
 use Rattle.primitive.proofs.epoch.sec_and_nsec.Tie as tie
-use Rattle.primitive.proofs.epoch.sec_and_nsec.Reads as reads
-use Rattle.primitive.proofs.epoch.sec_and_nsec.Lts as lts
-use Rattle.primitive.proofs.dec_u64.Reads as dec-u64-reads
-use Rattle.primitive.proofs.epoch.fraction.Reads as fraction-reads
 
 dec-u64-requires : tie.Need-dec-u64-requires
 dec-u64-requires c κs = search needs

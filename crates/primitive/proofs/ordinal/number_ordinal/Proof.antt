@@ -1,13 +1,9 @@
+-- `number_ordinal` is its definition's chain: space, a sign or none, then a number. Assumes nothing.
 use Rattle.primitive.proofs.Chain.{chain}
 use Rattle.primitive.specs.Ordinal.{number-ordinal}
 use borrow.Author.Needs.{needs}
 use Rattle.primitive.proofs.ordinal.number_ordinal.Statement.{statement}
 use Rattle.primitive.proofs.ordinal.number_ordinal.Tie as tie
-use Rattle.primitive.proofs.ordinal.number_ordinal.Reads as reads
-use Rattle.primitive.proofs.ordinal.number_ordinal.Lts as lts
-use Rattle.primitive.proofs.ordinal.signed_number.Reads as signed-number-reads
-use Rattle.primitive.proofs.sign.Reads as sign-reads
-use Rattle.primitive.proofs.space.Reads as space-reads
 
 space-requires : tie.Need-space-requires
 space-requires c κs = search needs

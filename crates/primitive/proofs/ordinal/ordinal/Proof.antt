@@ -1,12 +1,9 @@
+-- `ordinal` is a word or else a number, from what their readers ensure. Assumes nothing.
 use Rattle.primitive.proofs.Chain.{chain}
 use Rattle.primitive.specs.Ordinal.{ordinal}
 use borrow.Author.Needs.{needs}
 use Rattle.primitive.proofs.ordinal.ordinal.Statement.{statement}
 use Rattle.primitive.proofs.ordinal.ordinal.Tie as tie
-use Rattle.primitive.proofs.ordinal.ordinal.Reads as reads
-use Rattle.primitive.proofs.ordinal.ordinal.Lts as lts
-use Rattle.primitive.proofs.ordinal.number_ordinal.Reads as number-ordinal-reads
-use Rattle.primitive.proofs.ordinal.text_ordinal.Reads as text-ordinal-reads
 
 text-ordinal-requires : tie.Need-text-ordinal-requires
 text-ordinal-requires c κs = search needs

@@ -1,13 +1,9 @@
+-- `signed_number` is its definition's chain; the number is below 2 to the power 31, so it fits. Assumes nothing.
 use Rattle.primitive.proofs.Numbers.{numbers}
 use Rattle.primitive.specs.Ordinal.{signed-number}
 use borrow.Author.Needs.{needs}
 use Rattle.primitive.proofs.ordinal.signed_number.Statement.{statement}
 use Rattle.primitive.proofs.ordinal.signed_number.Tie as tie
-use Rattle.primitive.proofs.ordinal.signed_number.Reads as reads
-use Rattle.primitive.proofs.ordinal.signed_number.Lts as lts
-use Rattle.primitive.proofs.dec_uint.Reads as dec-uint-reads
-use Rattle.primitive.proofs.ordinal.with_sign.Reads as with-sign-reads
-use Rattle.primitive.proofs.space.Reads as space-reads
 
 space-requires : tie.Need-space-requires
 space-requires c κs = search needs

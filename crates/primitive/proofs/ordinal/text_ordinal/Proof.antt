@@ -1,3 +1,4 @@
+-- `text_ordinal` is its definition's chain: space, letters, and the value at the index of the word. Assumes nothing.
 use mathlib.Core.Path.{refl}
 use lib.IntN.{pos}
 use Rattle.primitive.specs.Text.{bytes}
@@ -8,11 +9,6 @@ use Rattle.primitive.proofs.Tables.{keys, values, word-in, word-out, i3
 use borrow.Author.Needs.{needs}
 use Rattle.primitive.proofs.ordinal.text_ordinal.Statement.{statement}
 use Rattle.primitive.proofs.ordinal.text_ordinal.Tie as tie
-use Rattle.primitive.proofs.ordinal.text_ordinal.Reads as reads
-use Rattle.primitive.proofs.ordinal.text_ordinal.Lts as lts
-use Rattle.primitive.proofs.alpha1.Reads as alpha1-reads
-use Rattle.primitive.proofs.find_word.Reads as find-word-reads
-use Rattle.primitive.proofs.space.Reads as space-reads
 
 space-requires : tie.Need-space-requires
 space-requires c κs = search needs

@@ -1,3 +1,4 @@
+-- `with_sign` is `signed`: the negative of what is below 2 to the power 31 fits an i32. Assumes nothing.
 use borrow.Author.Needs.{needs}
 use native.Mathlib.Omega.{arith}
 use Prim.Native.Nat.{ℕ, zero, suc, _<_, _≤_, _^_}
@@ -9,8 +10,6 @@ use mir.Facts.{toZ-pos, toZ-ofZ}
 use Rattle.primitive.specs.Ordinal.{signed}
 use Rattle.primitive.proofs.ordinal.with_sign.Statement.{statement}
 use Rattle.primitive.proofs.ordinal.with_sign.Tie as tie
-use Rattle.primitive.proofs.ordinal.with_sign.Reads as reads
-use Rattle.primitive.proofs.ordinal.with_sign.Lts as lts
 
 -- the negative of what fits, fits
 minus-fits : (v : ℕ) → v < 2 ^ 31 → SFits w32 (negℤ (pos v))
