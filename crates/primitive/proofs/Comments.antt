@@ -6,14 +6,14 @@ use native.Mathlib.Omega.{arith}
 use Prim.Native.Nat.{ℕ, zero, suc, _+_, _<_, _≤_}
 use native.Mathlib.Numerals.{add-one}
 use mathlib.Core.Path.{_≡_, refl, sym, ap, _∙_}
-use mathlib.Core.List.{List, [], _∷_}
+use mathlib.Core.List.{List, [], _∷_, _++_, append-assoc}
 use mathlib.Core.Bool.{Bool, true, false, _&&_}
-use lib.ListN.{length, getD, drop, length-drop}
+use lib.ListN.{length, getD, drop, length-drop, length-append}
 use lib.Seq.{drop-drop}
 use lib.Dec.{eqb}
 use Rattle.primitive.specs.Answer.{Answer, matched, none, stop, if, andThen}
 use Rattle.primitive.specs.Text.{lower, lowered, starts, tag}
-use Rattle.primitive.specs.Primitive.{closing, inside, comment, placeAnswer}
+use Rattle.primitive.specs.Primitive.{closing, inside, comment, Nested, empty, other, inner, placeAnswer}
 use Rattle.primitive.specs.declared.ReadPlace.{ReadPlace}
 use Rattle.primitive.specs.declared.ReadPlace.the-variants as place
 use Rattle.primitive.proofs.Lowered.{rest-cons, rest-none}
@@ -128,3 +128,33 @@ module _ (s : List ℕ) (i start : ℕ) (inv : inside (lowered s) i ≡ inside (
 
       pub inside-unclosed : r ≡ place.NoMatch → none ≡ inside (lowered s) start
       inside-unclosed k = place-none (comment (lowered s) i) r g (λ v n. inside (lowered s) n) k ∙ (sym (inside-open s i h b e f) ∙ inv)
+
+-- ---- a text that is properly nested, between parentheses
+
+nested-closing : {w : List ℕ} → Nested w → (d : ℕ) (bs : List ℕ) (k : ℕ) → closing d (w ++ bs) k ≡ closing d bs (k + length w)
+unfolding closing
+nested-closing empty d bs k = ap (closing d bs) (omega arith)
+nested-closing (other {b = b} {bs = w} f g h) d bs k = go d (nested-closing h d bs (k + 1))
+  where
+    place : k + 1 + length w ≡ k + suc (length w)
+    place = omega arith
+
+    go : (d : ℕ) → closing d (w ++ bs) (k + 1) ≡ closing d bs (k + 1 + length w) → closing d (b ∷ (w ++ bs)) k ≡ closing d bs (k + suc (length w))
+    go zero e = rw (ne-eqb b 41 g, ne-eqb b 40 f, ← place) e
+    go (suc d) e = rw (ne-eqb b 41 g, ne-eqb b 40 f, ← place) e
+nested-closing (inner {w = w} {bs = v} h g) d bs k =
+    go d (append-assoc w (41 ∷ v) bs) (nested-closing h (suc d) (41 ∷ (v ++ bs)) (k + 1)) (nested-closing g d bs (k + 1 + length w + 1))
+  where
+    place : k + 1 + length w + 1 + length v ≡ k + suc (length (w ++ (41 ∷ v)))
+    place = let l = length-append w (41 ∷ v) in omega arith
+
+    go : (d : ℕ) → (w ++ (41 ∷ v)) ++ bs ≡ w ++ (41 ∷ (v ++ bs))
+        → closing (suc d) (w ++ (41 ∷ (v ++ bs))) (k + 1) ≡ closing (suc d) (41 ∷ (v ++ bs)) (k + 1 + length w)
+        → closing d (v ++ bs) (k + 1 + length w + 1) ≡ closing d bs (k + 1 + length w + 1 + length v)
+        → closing d (40 ∷ ((w ++ (41 ∷ v)) ++ bs)) k ≡ closing d bs (k + suc (length (w ++ (41 ∷ v))))
+    go zero e f i = rw (e, ← place) (f ∙ i)
+    go (suc d) e f i = rw (e, ← place) (f ∙ i)
+
+pub nested-comment : (w : List ℕ) → Nested w → (text rest : List ℕ) (at : ℕ) → drop at text ≡ 40 ∷ (w ++ (41 ∷ rest)) → comment text at ≡ matched tt (at + 1 + length w + 1)
+unfolding comment inside closing tag starts
+nested-comment w h text rest at e = rw (e, tail-of text at 40 (w ++ (41 ∷ rest)) e, nested-closing h 0 (41 ∷ rest) (at + 1))

@@ -3,6 +3,10 @@ use Prim.Native.Nat.{ℕ, zero, suc, _+_, _<_, _≤_, min}
 use native.Mathlib.Numerals.{add-one}
 use mathlib.Core.Path.{_≡_, refl, sym, ap, _∙_}
 use mathlib.Core.List.{List, [], _∷_, map}
+use mathlib.Core.Bool.{Bool, true, false, _&&_}
+use lib.Dec.{leb}
+use borrow.Author.Tests.{leb-true, le-leb, lt-leb}
+use Rattle.primitive.specs.Answer.{if}
 use native.Mathlib.Omega.{arith}
 use lib.ListN.{length, getD, take, drop, drop-of-length-le, length-take}
 use lib.Seq.{slice, drop-cons, getD-take}
@@ -18,6 +22,22 @@ unfolding lowered lower
 getD-lowered [] i = refl
 getD-lowered (b ∷ bs) zero = refl
 getD-lowered (b ∷ bs) (suc i) = getD-lowered bs i
+
+-- a text in lower case is its own lower case: a reader that sees a text so makes nothing of its capitals
+lower-twice : (b : ℕ) → lower (lower b) ≡ lower b
+unfolding lower
+lower-twice b = go (leb 65 b) refl (leb b 90) refl
+  where
+    go : (t : Bool) → leb 65 b ≡ t → (u : Bool) → leb b 90 ≡ u
+        → (if (leb 65 (if (t && u) (b + 32) b) && leb (if (t && u) (b + 32) b) 90) (if (t && u) (b + 32) b + 32) (if (t && u) (b + 32) b)) ≡ if (t && u) (b + 32) b
+    go true e true f = let h = leb-true 65 b e in rw (lt-leb (b + 32) 90 (omega arith), le-leb 65 (b + 32) (omega arith))
+    go true e false f = rw (e, f)
+    go false e u f = rw e
+
+pub lowered-twice : (s : List ℕ) → lowered (lowered s) ≡ lowered s
+unfolding lowered
+lowered-twice [] = refl
+lowered-twice (b ∷ bs) = rw (lower-twice b, lowered-twice bs)
 
 module _ (s : List ℕ) (i : ℕ) where
   pub within : i < length s → i < length (lowered s)

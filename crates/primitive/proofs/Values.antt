@@ -5,7 +5,7 @@ use native.Mathlib.Omega.{arith}
 use Prim.Native.Nat.{ℕ, zero, suc, _+_, _-_, _*_, _/_, _^_, _<_, _≤_}
 use native.Mathlib.Nat.{pow-suc, add-mul, mul-assoc, mul-comm, add-assoc, le-mul-of-pos-right}
 use mathlib.Core.Path.{_≡_, refl, sym, ap, subst, _∙_}
-use mathlib.Core.List.{List, [], _∷_}
+use mathlib.Core.List.{List, [], _∷_, _++_}
 use lib.ListN.{length, getD}
 use lib.Seq.{slice}
 use Rattle.primitive.specs.Answer.{Answer, matched, none, if}
@@ -30,6 +30,14 @@ unfolding grown decimal
 grown-cons acc b bs =
     let moved : acc * (10 ^ length bs * 10) ≡ acc * 10 * 10 ^ length bs = rw (mul-comm (10 ^ length bs) 10, mul-assoc acc 10 (10 ^ length bs)) in
     rw (pow-suc 10 (length bs), moved, add-mul (acc * 10) (b - 48) (10 ^ length bs)) (sym (add-assoc _ _ _))
+
+-- one digit more at the end
+grown-more : (acc b : ℕ) (bs : List ℕ) → grown acc (bs ++ (b ∷ [])) ≡ grown acc bs * 10 + (b - 48)
+grown-more acc b [] = grown-cons acc b [] ∙ rw (grown-none, grown-none)
+grown-more acc b (c ∷ cs) = rw (grown-cons acc c (cs ++ (b ∷ [])), grown-cons acc c cs) (grown-more (acc * 10 + (c - 48)) b cs)
+
+pub decimal-more : (b : ℕ) (bs : List ℕ) → decimal (bs ++ (b ∷ [])) ≡ decimal bs * 10 + (b - 48)
+decimal-more b bs = rw (← grown-zero bs) (sym (grown-zero (bs ++ (b ∷ []))) ∙ grown-more 0 b bs)
 
 power-positive : (n : ℕ) → 0 < 10 ^ n
 power-positive zero = omega arith

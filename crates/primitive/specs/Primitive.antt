@@ -2,7 +2,8 @@
 -- words that stand in a table, and the code's answers.
 use Prim.Native.Nat.{ℕ, zero, suc, _+_, _-_, _*_, _^_}
 use Prim.Native.String.{String}
-use mathlib.Core.List.{List, [], _∷_}
+use mathlib.Core.Path.{_≡_}
+use mathlib.Core.List.{List, [], _∷_, _++_}
 use mathlib.Core.Bool.{Bool, true, false, _&&_}
 use lib.ListN.{length, getD, drop}
 use lib.Seq.{slice}
@@ -49,6 +50,13 @@ inside text at = closing 0 (drop at text) at
 -- 29.1: "Comments may be introduced between round parentheses, as long as included parentheses are properly nested."
 unfoldable pub comment : Reader (Unit {0})
 comment = char "(" >> inside
+
+-- Text whose parentheses are properly nested. Such a text between parentheses is a comment, read to its very end
+-- (proofs/Comments.antt, `nested-comment`).
+pub data Nested : List ℕ → Type 0 where
+  empty : Nested []
+  other : {b : ℕ} {bs : List ℕ} → (b ≡ 40 → ⊥) → (b ≡ 41 → ⊥) → Nested bs → Nested (b ∷ bs)
+  inner : {w bs : List ℕ} → Nested w → Nested bs → Nested (40 ∷ (w ++ (41 ∷ bs)))
 
 -- a place where no digit stands
 unfoldable pub no-digit : Reader (Unit {0})

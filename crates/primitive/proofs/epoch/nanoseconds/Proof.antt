@@ -21,7 +21,10 @@ loop-holds : tie.Need-loop-holds Inv-loop μ-loop
 loop-holds c = search fractions
 
 mul-acc : tie.Need-mul-acc Inv-loop μ-loop
-mul-acc c = let h = small _ _ (c .before .before .loop .inv .0) (c .before .before .loop .inv .2) (c .before .loop-test .taken) in omega arith
+mul-acc c =
+    let l = c .before .before .loop in
+    let h = small _ _ (l .inv .0) (l .inv .2) (c .before .loop-test .taken) in
+    omega arith
 
 shared-slice-read-to-lower : tie.Need-shared-slice-read-to-lower Inv-loop μ-loop
 shared-slice-read-to-lower c =
@@ -38,8 +41,12 @@ cast-acc c = search fractions
 
 add-acc : tie.Need-add-acc Inv-loop μ-loop
 add-acc c =
-    let h = small _ _ (c .before .before .before .before .before .loop .inv .0) (c .before .before .before .before .before .loop .inv .2) (c .before .before .before .before .loop-test .taken) in
-    let g = digit-limit _ _ _ _ (c .before .before .before .before .before .before .before .pre) (c .before .before .before .before .before .loop .inv .1) (c .before .before .before .if1 .taken) _ _ (c .before .to-lower .ensures) (c .digit-value .ensures) in
+    let l = c .before .before .before .before .before .loop in
+    let more = c .before .before .before .before .loop-test .taken in
+    let run = c .before .before .before .before .before .before .before .pre in
+    let inside = c .before .before .before .if1 .taken in
+    let limit = digit-limit _ _ _ _ run (l .inv .1) inside _ _ (c .before .to-lower .ensures) (c .digit-value .ensures) in
+    let h = small _ _ (l .inv .0) (l .inv .2) more in
     omega arith
 
 add-i : tie.Need-add-i Inv-loop μ-loop
@@ -53,16 +60,23 @@ loop-less c = search fractions
 
 loop-again : tie.Need-loop-again Inv-loop μ-loop
 loop-again c =
-    let within = digit-within _ _ _ _ (c .before .before .before .before .before .before .before .pre) (c .before .before .before .before .before .loop .inv .1) (c .before .before .before .if1 .taken) in
-    let limit = digit-limit _ _ _ _ (c .before .before .before .before .before .before .before .pre) (c .before .before .before .before .before .loop .inv .1) (c .before .before .before .if1 .taken) _ _ (c .before .to-lower .ensures) (c .digit-value .ensures) in (
+    let l = c .before .before .before .before .before .loop in
+    let more = c .before .before .before .before .loop-test .taken in
+    let run = c .before .before .before .before .before .before .before .pre in
+    let inside = c .before .before .before .if1 .taken in
+    let limit = digit-limit _ _ _ _ run (l .inv .1) inside _ _ (c .before .to-lower .ensures) (c .digit-value .ensures) in
+    let within = digit-within _ _ _ _ run (l .inv .1) inside in (
       search needs,
       search needs,
-      next-small _ _ (c .before .before .before .before .before .loop .inv .0) (c .before .before .before .before .before .loop .inv .2) (c .before .before .before .before .loop-test .taken) _ limit,
-      nano-digit _ _ _ _ _ _ (c .before .before .before .before .before .loop .inv .3) (c .before .before .before .before .loop-test .taken) (c .before .before .before .if1 .taken) within _ _ (c .before .to-lower .ensures) (c .digit-value .ensures),
+      next-small _ _ (l .inv .0) (l .inv .2) more _ limit,
+      nano-digit _ _ _ _ _ _ (l .inv .3) more inside within _ _ (c .before .to-lower .ensures) (c .digit-value .ensures),
     )
 
 mul-acc-2 : tie.Need-mul-acc-2 Inv-loop μ-loop
-mul-acc-2 c = let h = small _ _ (c .before .before .loop .inv .0) (c .before .before .loop .inv .2) (c .before .loop-test .taken) in omega arith
+mul-acc-2 c =
+    let l = c .before .before .loop in
+    let h = small _ _ (l .inv .0) (l .inv .2) (c .before .loop-test .taken) in
+    omega arith
 
 sub-left-2 : tie.Need-sub-left-2 Inv-loop μ-loop
 sub-left-2 c = search fractions
