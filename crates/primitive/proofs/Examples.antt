@@ -68,3 +68,9 @@ tables : (index (bytes "may") (words (bytes "march may june ")) ≡ 1) × (index
     × (index (bytes "july") (words (bytes "march may june july")) ≡ 3)
 unfolding bytes same words index
 tables = (refl, refl, refl)
+
+-- A place beyond the text is the end of a text.
+beyond : (space (bytes "ab") 5 ≡ 5) × (dec-uint 255 (bytes "12") 5 ≡ none) × (alpha1 (bytes "ab") 2 ≡ none) × (ordinal (bytes "last") 9 ≡ none)
+    × (quoted "" (bytes "ab") 7 ≡ matched tt 7) × (quoted "a" (bytes "a") 1 ≡ none)
+unfolding bytes blank digit letter run past some starts tag closing inside comment no-digit sign ignored-hyphen-or-plus ignored multispace0 skip space decimal parse-uint dec-uint-str dec-uint alpha1 same named signed signed-number ordinals text-ordinal number-ordinal ordinal
+beyond = (refl, refl, refl, refl, refl, refl)

@@ -269,7 +269,7 @@ fn digit_value(b: u8) -> u64
     if b < 48 { 0 } else { (b - 48) as u64 }
 }
 
-// One byte, which is no capital letter.
+// One byte. A capital letter is never found, as the text is seen in lower case.
 pub fn byte(s: &[u8], at: usize, b: u8) -> ReadPlace
     ensures { λ r. ⌜ placeAnswer r ≡ byte b (lowered (now (s .entry))) at ⌝ }
 {
