@@ -2,7 +2,7 @@
 -- ruleset `chain` a function that opens one answer after the other meets a definition written with `do`. Assumes nothing.
 use borrow.Author.Needs.{needs}
 use Prim.Native.Nat.{ℕ}
-use mathlib.Core.Path.{_≡_, refl, sym, ap, _∙_}
+use mathlib.Core.Path.{_≡_, sym, ap, _∙_}
 use mathlib.Core.List.{List}
 use mathlib.Core.Bool.{Bool}
 use lib.Seq.{slice}

@@ -1,23 +1,21 @@
 -- The laws of `comment`, for a reader that calls itself on the inner comment: inside a comment, an inner one is read as a comment
 -- of its own, and the reading goes on behind it (`inside-open`). Assumes nothing.
-use borrow.Author.Needs.{needs}
 use borrow.Author.Tests.{eq-eqb, ne-eqb}
 use native.Mathlib.Omega.{arith}
 use Prim.Native.Nat.{ℕ, zero, suc, _+_, _<_, _≤_}
-use native.Mathlib.Numerals.{add-one}
 use mathlib.Core.Path.{_≡_, refl, sym, ap, _∙_}
 use mathlib.Core.List.{List, [], _∷_, _++_, append-assoc}
-use mathlib.Core.Bool.{Bool, true, false, _&&_}
+use mathlib.Core.Bool.{Bool, true, false}
 use lib.ListN.{length, getD, drop, length-drop, length-append}
 use lib.Seq.{drop-drop}
 use lib.Dec.{eqb}
-use Rattle.primitive.specs.Answer.{Answer, matched, none, stop, if, andThen}
+use Rattle.primitive.specs.Answer.{Answer, matched, none, if, andThen}
 use Rattle.primitive.specs.Text.{lower, lowered, starts, tag}
 use Rattle.primitive.specs.Primitive.{closing, inside, comment, Nested, empty, other, inner, placeAnswer}
 use Rattle.primitive.specs.declared.ReadPlace.{ReadPlace}
 use Rattle.primitive.specs.declared.ReadPlace.the-variants as place
 use Rattle.primitive.proofs.Lowered.{rest-cons, rest-none}
-use Rattle.primitive.proofs.Chain.{place-match, place-none, chain}
+use Rattle.primitive.proofs.Chain.{place-match, place-none}
 
 -- e + d + 1, by steps that compute
 deeper : ℕ → ℕ → ℕ

@@ -1,13 +1,12 @@
 -- Where a match ends: never before the place asked, and within the text where that place is. One law for each combinator and
 -- leaf, so that the law of a reader is put together as the reader is. Assumes nothing.
 use native.Mathlib.Omega.{arith}
-use Prim.Native.Nat.{ℕ, zero, suc, _+_, _<_, _≤_, zero-le, suc-le-suc}
+use Prim.Native.Nat.{ℕ, zero, suc, _+_, _≤_, zero-le, suc-le-suc}
 use native.Mathlib.Nat.{le-refl, le-trans}
-use mathlib.Core.Path.{_≡_, refl, sym, ap, _∙_}
+use mathlib.Core.Path.{_≡_, refl, _∙_}
 use mathlib.Core.List.{List, [], _∷_}
 use mathlib.Core.Bool.{Bool, true, false, _&&_}
 use lib.ListN.{length, getD, drop, length-drop}
-use lib.Seq.{slice}
 use lib.Dec.{ltb, eqb, leb}
 use Prim.Native.String.{String}
 use Rattle.primitive.specs.Answer.{Answer, Reader, matched, none, stop, if, andThen, orElse, _>>=_, _>>_, _<|>_, pure, value, optional, verify}

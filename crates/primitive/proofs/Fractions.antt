@@ -1,7 +1,6 @@
 -- The laws of `nanoseconds`: for the loop over nine digits, whose sum stays below 10 to the power of the digits passed. Assumes
 -- nothing.
-use borrow.Author.Needs.{needs}
-use borrow.Author.Tests.{leb-true, ltb-true}
+use borrow.Author.Tests.{leb-true}
 use native.Mathlib.Omega.{arith}
 use Prim.Native.Nat.{ℕ, zero, suc, _+_, _-_, _*_, _^_, _<_, _≤_}
 use native.Mathlib.Nat.{pow-suc, pow-le-pow-right}
@@ -11,11 +10,9 @@ use mathlib.Core.Bool.{Bool, true, false, _&&_}
 use lib.ListN.{length, getD, drop, length-drop}
 use lib.Seq.{slice, getD-drop}
 use lib.Dec.{ltb, leb}
-use mir.Syntax.{w32}
-use mir.Val.{Fits}
-use Rattle.primitive.specs.Answer.{Answer, matched, none, if}
+use Rattle.primitive.specs.Answer.{matched, none, if}
 use Rattle.primitive.specs.Text.{lower, lowered, digit, run, past, some}
-use Rattle.primitive.specs.Primitive.{decimal, dec-uint-str, sliceAnswer}
+use Rattle.primitive.specs.Primitive.{dec-uint-str, sliceAnswer}
 use Rattle.primitive.specs.Epoch.{padded, nanoseconds}
 use Rattle.primitive.specs.declared.ReadPlace.{ReadPlace}
 use Rattle.primitive.specs.declared.ReadPlace.the-variants as place

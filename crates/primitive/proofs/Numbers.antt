@@ -1,6 +1,5 @@
 -- The laws of `dec-uint`: a number that was read is at most its limit, so it fits each width that holds the limit; it has a
 -- digit. Assumes nothing.
-use borrow.Author.Needs.{needs}
 use borrow.Author.Tests.{leb-true, ltb-true}
 use native.Mathlib.Omega.{arith}
 use Prim.Native.Nat.{ℕ, _≤_, _<_, _^_}

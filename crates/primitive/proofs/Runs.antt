@@ -1,16 +1,15 @@
 -- The laws of `past` and `some`: the end of a run, by the byte at its start. Assumes nothing.
 use borrow.Author.Needs.{needs}
 use borrow.Author.Tests.{lt-ltb, le-ltb}
-use native.Mathlib.Omega.{arith}
-use Prim.Native.Nat.{ℕ, zero, suc, _+_, _-_, _<_, _≤_, zero-le, suc-le-suc}
-use native.Mathlib.Nat.{add-zero, add-suc, suc-add, le-refl}
+use Prim.Native.Nat.{ℕ, _+_, _<_, _≤_}
+use native.Mathlib.Nat.{add-zero, add-suc, suc-add}
 use native.Mathlib.Numerals.{add-one}
-use mathlib.Core.Path.{_≡_, refl, sym, ap, _∙_}
-use mathlib.Core.List.{List, [], _∷_}
+use mathlib.Core.Path.{_≡_}
+use mathlib.Core.List.{List}
 use mathlib.Core.Bool.{Bool, true, false}
-use lib.ListN.{length, getD, drop, length-drop}
+use lib.ListN.{length, getD}
 use lib.Seq.{slice}
-use Rattle.primitive.specs.Answer.{Answer, matched, none, if}
+use Rattle.primitive.specs.Answer.{matched, none}
 use Rattle.primitive.specs.Text.{lower, lowered, run, past, some}
 use Rattle.primitive.proofs.Lowered.{rest-cons, rest-none}
 

@@ -1,21 +1,19 @@
 -- The laws of the space between tokens: for the loop that skips it, and that any limit from the text's length on gives the same
 -- place. Assumes nothing.
-use borrow.Author.Needs.{needs}
 use native.Mathlib.Omega.{arith}
-use Prim.Native.Nat.{ℕ, zero, suc, _+_, _-_, _<_, _≤_}
-use native.Mathlib.Nat.{le-trans}
+use Prim.Native.Nat.{ℕ, zero, suc, _-_, _<_, _≤_}
 use mathlib.Core.Path.{_≡_, refl, sym, ap, _∙_}
 use mathlib.Core.List.{List, [], _∷_}
 use mathlib.Core.Bool.{Bool, true, false}
-use lib.ListN.{length, getD, drop, drop-of-length-le, List·getD-eq-default}
-use Rattle.primitive.specs.Answer.{Answer, matched, none, stop, if, andThen, orElse}
+use lib.ListN.{length, getD, drop-of-length-le, List·getD-eq-default}
+use Rattle.primitive.specs.Answer.{Answer, matched, none, stop, andThen, orElse}
 use Rattle.primitive.specs.Text.{lower, lowered, blank, digit, past, starts, tag}
 use Rattle.primitive.specs.Primitive.{multispace0, inside, comment, no-digit, sign, ignored-hyphen-or-plus, ignored, behind, skip, space, placeAnswer}
 use Rattle.primitive.specs.declared.ReadPlace.{ReadPlace}
 use Rattle.primitive.specs.declared.ReadPlace.the-variants as place
 use Rattle.primitive.proofs.Lowered.{length-lowered, getD-lowered, beyond}
 use Rattle.primitive.proofs.Comments.{inside-within, inside-done, inside-found, inside-next, inside-inner, inside-unclosed}
-use Rattle.primitive.proofs.Forward.{Onward, Ends, tag-ends, then-forward, multispace0-forward, no-digit-forward, ignored-forward, past-onward}
+use Rattle.primitive.proofs.Forward.{tag-ends, then-forward, multispace0-forward, no-digit-forward, past-onward}
 use Rattle.primitive.proofs.Chain.{chain}
 
 -- ---- a comment and an ignored sign end behind their start

@@ -5,14 +5,14 @@ use borrow.Author.Tests.{lt-ltb, le-ltb, le-leb, lt-leb, eq-eqb, ne-eqb}
 use native.Mathlib.Omega.{arith}
 use native.Mathlib.Decide.{decLt}
 use native.Mathlib.Numerals.{add-one}
-use Prim.Native.Nat.{ℕ, zero, suc, _+_, _-_, _<_, _≤_, min}
+use Prim.Native.Nat.{ℕ, zero, suc, _+_, _<_, _≤_, min}
 use Prim.Native.String.{String}
 use mathlib.Core.Path.{_≡_, refl, sym, ap, _∙_}
-use mathlib.Core.List.{List, [], _∷_, _++_, map}
-use mathlib.Core.Bool.{Bool, true, false, _&&_, not}
+use mathlib.Core.List.{List, [], _∷_, map}
+use mathlib.Core.Bool.{Bool, true, false, _&&_}
 use lib.ListN.{length, getD, take, drop, drop-of-length-le}
 use lib.Seq.{slice, drop-cons, take-all}
-use lib.Dec.{ltb, leb, eqb, leb·suc-suc}
+use lib.Dec.{ltb, leb, leb·suc-suc}
 use lib.IntN.{ℤ, pos}
 use mir.Syntax.{w32}
 use mir.Val.{toZ, ofZ}
@@ -22,7 +22,7 @@ use Rattle.primitive.specs.Primitive.{same, named, longer, words, index,
 use Rattle.primitive.specs.declared.ReadPlace.{ReadPlace}
 use Rattle.primitive.specs.declared.ReadPlace.the-variants as place
 use Rattle.primitive.proofs.Chain.{slice-match}
-use Rattle.primitive.proofs.Lowered.{length-lowered, slice-first, slice-over, slice-beyond}
+use Rattle.primitive.proofs.Lowered.{length-lowered, slice-first, slice-over}
 
 -- the part of the text that is looked for, under a name that shows its arguments
 pub part : List ℕ → ℕ → ℕ → List ℕ

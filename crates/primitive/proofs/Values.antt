@@ -4,11 +4,11 @@ use borrow.Author.Tests.{le-leb, lt-leb}
 use native.Mathlib.Omega.{arith}
 use Prim.Native.Nat.{ℕ, zero, suc, _+_, _-_, _*_, _/_, _^_, _<_, _≤_}
 use native.Mathlib.Nat.{pow-suc, add-mul, mul-assoc, mul-comm, add-assoc, le-mul-of-pos-right}
-use mathlib.Core.Path.{_≡_, refl, sym, ap, subst, _∙_}
+use mathlib.Core.Path.{_≡_, sym, subst, _∙_}
 use mathlib.Core.List.{List, [], _∷_, _++_}
 use lib.ListN.{length, getD}
 use lib.Seq.{slice}
-use Rattle.primitive.specs.Answer.{Answer, matched, none, if}
+use Rattle.primitive.specs.Answer.{matched, none}
 use Rattle.primitive.specs.Text.{lower, lowered}
 use Rattle.primitive.specs.Primitive.{decimal, parse-uint}
 use Rattle.primitive.proofs.Lowered.{slice-first, slice-beyond, slice-over}

@@ -9,7 +9,7 @@ use lib.ListN.{length, getD, drop}
 use lib.Seq.{slice}
 use lib.Dec.{leb, eqb}
 use Rattle.primitive.specs.Answer.{Answer, Reader, matched, none, stop, if, _>>=_, _>>_, _<|>_, pure, value, verify}
-use Rattle.primitive.specs.Text.{bytes, blank, digit, letter, past, some, byte, char}
+use Rattle.primitive.specs.Text.{bytes, blank, digit, letter, past, some, char}
 use Rattle.primitive.specs.declared.ReadPlace.{ReadPlace}
 use Rattle.primitive.specs.declared.ReadPlace.the-variants as place
 use Rattle.primitive.specs.declared.ReadSign.{ReadSign}
@@ -62,18 +62,19 @@ pub data Nested : List ℕ → Type 0 where
 unfoldable pub no-digit : Reader (Unit {0})
 no-digit text at = if (digit (getD text at 0)) none (matched tt at)
 
--- true for minus
+-- a plus or a minus; true for minus
 unfoldable pub sign : Reader Bool
 sign = value false (char "+") <|> value true (char "-")
 
--- 29.1: "Hyphens not followed by a digit are currently ignored." Document 01, items/primitive.rs: so is a plus, and blanks may
--- stand between the sign and the digit.
+-- 29.1: "Hyphens not followed by a digit are currently ignored." Document 01, items/primitive.rs: so is a plus; a digit
+-- behind blanks follows too.
 unfoldable pub ignored-hyphen-or-plus : Reader (Unit {0})
 ignored-hyphen-or-plus = do
   sign
   multispace0
   no-digit
 
+-- Document 01, items/primitive.rs: `space` skips blanks, comments, and such a sign
 unfoldable pub ignored : Reader (Unit {0})
 ignored = comment <|> ignored-hyphen-or-plus
 

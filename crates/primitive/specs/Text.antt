@@ -8,7 +8,7 @@ use mathlib.Core.Bool.{Bool, true, false, _&&_, _||_}
 use lib.ListN.{length, drop}
 use lib.Seq.{slice}
 use lib.Dec.{ltb, leb, eqb}
-use Rattle.primitive.specs.Answer.{Answer, Reader, matched, none, if}
+use Rattle.primitive.specs.Answer.{Reader, matched, none, if}
 
 -- 29.1: "Alphabetic case is completely ignored in dates." Bytes 65 to 90 are 97 to 122 in lower case; readers see the text so.
 unfoldable pub lower : ℕ → ℕ

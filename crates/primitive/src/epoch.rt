@@ -6,8 +6,7 @@ use crate::ReadU32;
 use crate::ReadU64;
 ghost use mathlib.Core.Path.{_≡_};
 ghost use lib.Seq.{slice};
-ghost use Rattle.primitive.specs.Answer.{_<|>_};
-ghost use Rattle.primitive.specs.Text.{lowered, digit, past, char};
+ghost use Rattle.primitive.specs.Text.{lowered, digit, past};
 ghost use Rattle.primitive.specs.Primitive.{placeAnswer, u32Answer};
 ghost use Rattle.primitive.specs.Epoch.{point-or-comma, nanoseconds, fraction, sec-and-nsec, secAndNsecAnswer};
 

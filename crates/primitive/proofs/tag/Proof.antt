@@ -3,8 +3,7 @@ use borrow.Author.Needs.{needs}
 use Rattle.primitive.proofs.Tags.{tag-next, tags, startsFrom}
 use Prim.Native.Nat.{_+_, _≤_, _-_}
 use mathlib.Core.Path.{_≡_}
-use lib.ListN.{drop, length}
-use Rattle.primitive.specs.Text.{lowered, starts}
+use lib.ListN.{length}
 use Rattle.primitive.proofs.tag.Statement.{statement}
 use Rattle.primitive.proofs.tag.Tie as tie
 
