@@ -1,0 +1,13 @@
+pub mod Tests
+pub mod Lowered
+pub mod Runs
+pub mod Tags
+pub mod Values
+pub mod Chain
+pub mod Numbers
+pub mod Comments
+pub mod Forward
+pub mod Spaces
+pub mod Tables
+pub mod Fractions
+pub mod Examples

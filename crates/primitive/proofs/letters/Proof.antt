@@ -1,0 +1,57 @@
+-- `letters` ends where the run of letters does. The loop's invariant: from `i` on the run ends where it does from `at` on. Assumes nothing.
+use Rattle.primitive.proofs.Runs.{runs}
+use mathlib.Core.Path.{_≡_}
+use Rattle.primitive.specs.Text.{letter, lowered, past}
+use Prim.Native.Nat.{_-_}
+use lib.ListN.{length}
+use Rattle.primitive.proofs.letters.Statement.{statement}
+use Rattle.primitive.proofs.letters.Tie as tie
+
+abbrev Inv-loop : tie.InvT-loop
+Inv-loop s at i₀ i = past letter (lowered s) i ≡ past letter (lowered s) at
+
+abbrev μ-loop : tie.MeasureT-loop
+μ-loop s at i₀ i = length s - i
+
+loop-holds : tie.Need-loop-holds Inv-loop μ-loop
+loop-holds c = search runs
+
+shared-slice-read-to-lower : tie.Need-shared-slice-read-to-lower Inv-loop μ-loop
+shared-slice-read-to-lower c = search runs
+
+to-lower-requires : tie.Need-to-lower-requires Inv-loop μ-loop
+to-lower-requires c κs = search runs
+
+is-letter-requires : tie.Need-is-letter-requires Inv-loop μ-loop
+is-letter-requires c κs = search runs
+
+add-i : tie.Need-add-i Inv-loop μ-loop
+add-i c = search runs
+
+loop-less : tie.Need-loop-less Inv-loop μ-loop
+loop-less c = search runs
+
+loop-again : tie.Need-loop-again Inv-loop μ-loop
+loop-again c = search runs
+
+returns : tie.Need-returns Inv-loop μ-loop
+returns c = search runs
+
+returns-2 : tie.Need-returns-2 Inv-loop μ-loop
+returns-2 c = search runs
+
+pub letters-spec : {M : Type 1} → statement M
+letters-spec =
+    tie.close
+    (tie.spec
+    Inv-loop
+    μ-loop
+    loop-holds
+    shared-slice-read-to-lower
+    to-lower-requires
+    is-letter-requires
+    add-i
+    loop-less
+    loop-again
+    returns
+    returns-2)
