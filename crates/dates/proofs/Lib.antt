@@ -1,0 +1,4 @@
+-- The laws of the crate `dates`.
+pub mod Chain
+pub mod Years
+pub mod Parts

@@ -1,0 +1,26 @@
+-- `comma_dated` is its definition's chain: what is skipped, a year or none, and the date. Assumes nothing.
+use borrow.Author.Needs.{needs}
+use Rattle.dates.proofs.Chain.{year-behind}
+use Rattle.dates.specs.Date.{comma, dated-behind, ended-year}
+use Rattle.primitive.specs.Text.{lowered}
+use Rattle.dates.proofs.date.comma_dated.Statement.{statement}
+use Rattle.dates.proofs.date.comma_dated.Tie as tie
+
+comma-requires : tie.Need-comma-requires
+comma-requires c κs = search needs
+
+ended-year-requires : tie.Need-ended-year-requires
+ended-year-requires c κs = search needs
+
+dated-requires : tie.Need-dated-requires
+dated-requires c κs = search needs
+
+returns : tie.Need-returns
+unfolding dated-behind ended-year
+returns c =
+    let a = c .before .before .before .before .args in
+    let t = lowered (a .s .now) in
+    year-behind (comma t (a .at)) (c .before .before .comma .result) (c .before .before .comma .ensures) t (a .at) (c .before .ended-year .result) (c .before .ended-year .ensures) (a .month) (a .day) _ (c .dated .ensures)
+
+pub comma-dated-spec : {M : Type 1} → statement M
+comma-dated-spec = tie.close (tie.spec comma-requires ended-year-requires dated-requires returns)

@@ -1,0 +1,15 @@
+-- `exists` is its definition's tests. Assumes nothing.
+use borrow.Author.Needs.{needs}
+use Rattle.dates.specs.Date.{exists}
+use Rattle.dates.proofs.date.exists.Statement.{statement}
+use Rattle.dates.proofs.date.exists.Tie as tie
+
+days-in-month-requires : tie.Need-days-in-month-requires
+days-in-month-requires c κs = search needs
+
+returns : tie.Need-returns
+unfolding exists
+returns c = rw (c .days-in-month .ensures)
+
+pub exists-spec : {M : Type 1} → statement M
+exists-spec = tie.close (tie.spec days-in-month-requires returns)

@@ -1,0 +1,3 @@
+-- The definitions of the crate `dates`, in reading order.
+pub mod Year
+pub mod Date
