@@ -2,3 +2,5 @@
 pub mod Chain
 pub mod Years
 pub mod Parts
+pub mod Examples
+pub mod Forward
