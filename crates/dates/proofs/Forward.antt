@@ -1,7 +1,7 @@
 -- Where a match of a date reader ends: never before the place asked, and within the text where that place is. Assumes nothing.
 use Prim.Native.Nat.{ℕ}
 use mathlib.Core.List.{List, [], _∷_, _++_}
-use mathlib.Core.Bool.{false}
+use mathlib.Core.Bool.{Bool, true, false}
 use lib.ListN.{length}
 use lib.Dec.{leb}
 use Rattle.primitive.specs.Answer.{Reader, if, _>>=_, _>>_, _<|>_, pure, value, optional, verify, matched, none}
@@ -95,13 +95,16 @@ iso2-forward =
     (λ w. next-forward _ _ (five-digits-forward w)
     (then-forward _ _ (parse-uint-forward 255 _) (λ m. then-forward _ _ (parse-uint-forward 255 _) (λ d. with-year-forward _ m d))))
 
+either-forward : {A : Type 0} (t : Bool) (p q : Reader A) → Forward p → Forward q → Forward (if t p q)
+either-forward true p q h k = h
+either-forward false p q h k = k
+
 us-date-forward : (w : List ℕ) (n : ℕ) (v : Written) → Forward (us-date w n v)
 unfolding us-date
-us-date-forward w n (written v) text at =
-    if-ends text at (leb 4 (length w)) _ _
-    (then-forward _ _ (parse-uint-forward 255 v) (λ d. with-year-forward w n d) text at)
-    (then-forward _ _ (parse-uint-forward 255 w) (λ m. with-year-forward v m n) text at)
-us-date-forward w n unwritten text at = then-forward _ _ (parse-uint-forward 255 w) (λ m. without-year-forward m n) text at
+us-date-forward w n (written v) =
+    either-forward (leb 4 (length w)) _ _ (then-forward _ _ (parse-uint-forward 255 v) (λ d. with-year-forward w n d))
+    (then-forward _ _ (parse-uint-forward 255 w) (λ m. with-year-forward v m n))
+us-date-forward w n unwritten = then-forward _ _ (parse-uint-forward 255 w) (λ m. without-year-forward m n)
 
 slash-part-forward : Forward slash-part
 unfolding slash-part
