@@ -10,4 +10,6 @@ pub mod Forward
 pub mod Spaces
 pub mod Tables
 pub mod Fractions
+pub mod Limits
+pub mod Spaced
 pub mod Examples

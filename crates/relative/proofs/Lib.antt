@@ -1,0 +1,5 @@
+pub mod Chain
+pub mod Signed
+pub mod Units
+pub mod Forward
+pub mod Examples
