@@ -57,7 +57,7 @@ run-digits (b ∷ bs) = go (digit b) refl (run-digits bs)
     go true e h = one-more (digit-worth b e) h
     go false e h = none-left
 
-slice-take : (a k : ℕ) (l : List ℕ) → drop a (take (a + k) l) ≡ take k (drop a l)
+pub slice-take : (a k : ℕ) (l : List ℕ) → drop a (take (a + k) l) ≡ take k (drop a l)
 slice-take zero k l = rw (zero-add k)
 slice-take (suc a) zero [] = rw (suc-add a 0)
 slice-take (suc a) (suc k) [] = rw (suc-add a (suc k))
