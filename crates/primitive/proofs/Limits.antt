@@ -9,7 +9,7 @@ use native.Mathlib.Nat.{zero-add, suc-add, pow-suc, mul-le-mul-right}
 use mathlib.Core.Path.{_≡_, refl, sym, ap, _∙_}
 use mathlib.Core.List.{List, [], _∷_}
 use mathlib.Core.Bool.{Bool, true, false, _&&_}
-use lib.ListN.{length, take, drop, length-drop}
+use lib.ListN.{length, take, drop, length-drop, length-take}
 use lib.Seq.{slice}
 use lib.Dec.{ltb, leb}
 use lib.IntN.{ℤ, pos, negsuc, negℤ}
@@ -57,7 +57,7 @@ run-digits (b ∷ bs) = go (digit b) refl (run-digits bs)
     go true e h = one-more (digit-worth b e) h
     go false e h = none-left
 
-slice-take : (a k : ℕ) (l : List ℕ) → drop a (take (a + k) l) ≡ take k (drop a l)
+pub slice-take : (a k : ℕ) (l : List ℕ) → drop a (take (a + k) l) ≡ take k (drop a l)
 slice-take zero k l = rw (zero-add k)
 slice-take (suc a) zero [] = rw (suc-add a 0)
 slice-take (suc a) (suc k) [] = rw (suc-add a (suc k))
@@ -198,30 +198,47 @@ ordinal-within text at n v = go (text-ordinal text at) refl
 pub ordinal-range : (text : List ℕ) (at n : ℕ) (v : ℤ) (r : ReadI32) → i32Answer r ≡ ordinal text at → r ≡ i32.Match v n → mag (negℤ v) < 2 ^ 31
 ordinal-range text at n v r e k = ordinal-within text at n v (sym e ∙ ap i32Answer k)
 
--- ---- words
+-- ---- words and digits
 
--- a word that was read has a letter and lies within the text
-word-ends : (s : List ℕ) (at n : ℕ) → (a : Answer (List ℕ)) → a ≡ alpha1 (lowered s) at → a ≡ matched (slice at n (lowered s)) n → (at < n) × (n ≤ length s)
-unfolding alpha1 some past
-word-ends s at n a e k = go (ltb at (at + run letter (drop at (lowered s)))) refl (sym k ∙ e)
+-- a run that was read has a byte and lies within the text
+some-ends : (p : ℕ → Bool) (s : List ℕ) (at n : ℕ) → (a : Answer (List ℕ)) → a ≡ some p (lowered s) at → a ≡ matched (slice at n (lowered s)) n → (at < n) × (n ≤ length s)
+unfolding some past
+some-ends p s at n a e k = go (ltb at (at + run p (drop at (lowered s)))) refl (sym k ∙ e)
   where
-    go : (t : Bool) → ltb at (at + run letter (drop at (lowered s))) ≡ t
-        → matched (slice at n (lowered s)) n ≡ if t (matched (slice at (at + run letter (drop at (lowered s))) (lowered s)) (at + run letter (drop at (lowered s)))) none
+    go : (t : Bool) → ltb at (at + run p (drop at (lowered s))) ≡ t
+        → matched (slice at n (lowered s)) n ≡ if t (matched (slice at (at + run p (drop at (lowered s))) (lowered s)) (at + run p (drop at (lowered s)))) none
         → (at < n) × (n ≤ length s)
     go true h f =
-        let z : n ≡ at + run letter (drop at (lowered s)) = cc in
-        let y = ltb-true at (at + run letter (drop at (lowered s))) h in
-        let x = run-le letter (drop at (lowered s)) in
+        let z : n ≡ at + run p (drop at (lowered s)) = cc in
+        let y = ltb-true at (at + run p (drop at (lowered s))) h in
+        let x = run-le p (drop at (lowered s)) in
         let u = length-drop at (lowered s) in
         let l = length-lowered s in
         (omega arith, omega arith)
     go false h f = let z : _≡_ {A = ℕ} 0 1 = cc in absurd (clash z)
 
-module _ (s : List ℕ) (at n : ℕ) (r : ReadPlace) (e : sliceAnswer (lowered s) at r ≡ alpha1 (lowered s) at) (k : r ≡ place.Match n) where
-  pub word-longer : at < n
-  word-longer = word-ends s at n (sliceAnswer (lowered s) at r) e (ap (sliceAnswer (lowered s) at) k) .0
+module _ (s : List ℕ) (at n : ℕ) (r : ReadPlace) (k : r ≡ place.Match n) where
+  module _ (e : sliceAnswer (lowered s) at r ≡ alpha1 (lowered s) at) where
+    pub word-longer : at < n
+    unfolding alpha1
+    word-longer = some-ends letter s at n (sliceAnswer (lowered s) at r) e (ap (sliceAnswer (lowered s) at) k) .0
 
-  pub word-inside : n ≤ length s
-  word-inside = word-ends s at n (sliceAnswer (lowered s) at r) e (ap (sliceAnswer (lowered s) at) k) .1
+    pub word-inside : n ≤ length s
+    unfolding alpha1
+    word-inside = some-ends letter s at n (sliceAnswer (lowered s) at r) e (ap (sliceAnswer (lowered s) at) k) .1
 
-pub ruleset limits = (nsec-limit, ordinal-range, word-longer, word-inside, needs)
+  module _ (e : sliceAnswer (lowered s) at r ≡ dec-uint-str (lowered s) at) where
+    pub digits-later : at ≤ n
+    unfolding dec-uint-str
+    digits-later = let h = some-ends digit s at n (sliceAnswer (lowered s) at r) e (ap (sliceAnswer (lowered s) at) k) in let l = h .0 in omega arith
+
+    -- as many as the places that they take
+    pub digits-length : length (slice at n (lowered s)) ≡ n - at
+    unfolding dec-uint-str
+    digits-length =
+        let h = some-ends digit s at n (sliceAnswer (lowered s) at r) e (ap (sliceAnswer (lowered s) at) k) in
+        let l = h .1 in
+        let m = length-lowered s in
+        simp (length-drop, length-take) (omega arith)
+
+pub ruleset limits = (nsec-limit, ordinal-range, word-longer, word-inside, digits-later, needs)

@@ -34,7 +34,7 @@ pub fn sec_and_nsec(s: &[u8], at: usize) -> ReadSecAndNsec
 }
 
 // A point or comma and the digits behind it, as nanoseconds.
-fn fraction(s: &[u8], at: usize) -> ReadU32
+pub fn fraction(s: &[u8], at: usize) -> ReadU32
     ensures { λ r. ⌜ u32Answer r ≡ fraction (lowered (now (s .entry))) at ⌝ }
 {
     let ReadPlace::Match(start) = point_or_comma(s, at) else {

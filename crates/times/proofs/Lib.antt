@@ -1,0 +1,6 @@
+pub mod Chain
+pub mod Signed
+pub mod Offsets
+pub mod Times
+pub mod Forward
+pub mod Examples

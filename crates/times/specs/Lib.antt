@@ -1,0 +1,3 @@
+-- The definitions of the crate `times`.
+pub mod Offset
+pub mod Time

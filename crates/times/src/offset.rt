@@ -1,0 +1,239 @@
+// Offsets from UTC, as in items/offset.rs: a sign with hours and minutes. Zone names are not read.
+//
+// - An offset out of range stops the reading: more than 24 hours, more than 60 minutes, or minutes beside 24 hours. So +24:00 and
+//   +23:60 are read, and +24:01 is not.
+// - `timezone_offset` yields to a relative item, `time_zone_correction` does not: `10:00 +2 hours` is 10:00 at +02:00, and `hours`.
+
+use primitive::ReadPlace;
+use primitive::ReadSign;
+use primitive::ReadU8;
+use primitive::ReadU32;
+use primitive::ReadU64;
+use relative::ReadRelative;
+ghost use mathlib.Core.Path.{_≡_};
+ghost use Prim.Native.Nat.{_<_};
+ghost use mathlib.Core.List.{[]};
+ghost use Rattle.primitive.specs.Text.{lowered};
+ghost use Rattle.primitive.specs.Primitive.{u32Answer};
+ghost use Rattle.relative.specs.Relative.{parse};
+ghost use Rattle.times.specs.Offset.{inRange, moved, normalized, totalSeconds, without, offset-of, digits-offset, signed-fraction, time-zone-correction, any-offset, timezone-offset, timezone-offset-colon, timezone-offset-colonless, offsetAnswer};
+
+// A distance from UTC; `negative` is west of it.
+pub struct Offset {
+    pub negative: bool,
+    pub hours: u8,
+    pub minutes: u8,
+}
+
+// An offset whose hours are within the accepted range, and the hours by which the clock has to move to make up for it. Each u8 of hours
+// is taken, so that the adjustment is an i16.
+pub struct Normalized {
+    pub offset: Offset,
+    pub hour_adjustment: i16,
+}
+
+// An offset, and where it ends.
+pub enum ReadOffset {
+    Match(Offset, usize),
+    NoMatch,
+    Stop,
+}
+
+impl Offset {
+    // Hours above 23 become 23, unless they are 24 and no minutes, and the clock moves by the rest.
+    pub fn normalize(self) -> Normalized
+        ensures { λ r. ⌜ r ≡ normalized self ⌝ }
+    {
+        if self.hours < 24 {
+            return Normalized {
+                offset: self,
+                hour_adjustment: 0,
+            };
+        }
+        if 24 < self.hours {
+            return self.moved();
+        }
+        if self.minutes == 0 {
+            return Normalized {
+                offset: self,
+                hour_adjustment: 0,
+            };
+        }
+        self.moved()
+    }
+
+    // 23 hours, and the rest for the clock: forward for an offset that is negative.
+    fn moved(self) -> Normalized
+        requires { ⌜ 23 < self .hours ⌝ }
+        ensures { λ r. ⌜ r ≡ moved self ⌝ }
+    {
+        let offset = Offset {
+            negative: self.negative,
+            hours: 23,
+            minutes: self.minutes,
+        };
+        let more = self.hours - 23;
+        if self.negative {
+            return Normalized {
+                offset,
+                hour_adjustment: more as i16,
+            };
+        }
+        Normalized {
+            offset,
+            hour_adjustment: 0 - (more as i16),
+        }
+    }
+
+    pub fn total_seconds(self) -> i32
+        ensures { λ r. ⌜ r ≡ totalSeconds self ⌝ }
+    {
+        let secs = (self.hours as u32) * 3600 + (self.minutes as u32) * 60;
+        if self.negative {
+            0 - (secs as i32)
+        } else {
+            secs as i32
+        }
+    }
+}
+
+// Whether hours and minutes are those of an offset that is read: the Rust's `try_from`.
+pub fn in_range(hours: u64, minutes: u64) -> bool
+    ensures { λ r. ⌜ r ≡ inRange hours minutes ⌝ }
+{
+    if 24 < hours {
+        return false;
+    }
+    if 60 < minutes {
+        return false;
+    }
+    if hours == 24 {
+        return minutes == 0;
+    }
+    true
+}
+
+// An offset in range, or a stop. Nothing is read.
+fn offset_of(negative: bool, hours: u64, minutes: u64, next: usize) -> ReadOffset
+    ensures { λ r. ⌜ offsetAnswer r ≡ offset-of negative hours minutes [] next ⌝ }
+{
+    if in_range(hours, minutes) {
+        ReadOffset::Match(
+            Offset {
+                negative,
+                hours: hours as u8,
+                minutes: minutes as u8,
+            },
+            next,
+        )
+    } else {
+        ReadOffset::Stop
+    }
+}
+
+// The correction that follows a time of day. A unit of time behind it changes nothing: `12:00 +3 hours` is 12:00 at +03:00, and `hours`.
+// A number with a fraction is no correction: `12:00 +1.5 seconds`.
+pub fn time_zone_correction(s: &[u8], at: usize) -> ReadOffset
+    ensures { λ r. ⌜ offsetAnswer r ≡ time-zone-correction (lowered (now (s .entry))) at ⌝ }
+{
+    if let ReadU32::Match(_, _) = signed_fraction(s, at) {
+        return ReadOffset::NoMatch;
+    }
+    any_offset(s, at)
+}
+
+// A number with a sign and a fraction.
+fn signed_fraction(s: &[u8], at: usize) -> ReadU32
+    ensures { λ r. ⌜ u32Answer r ≡ signed-fraction (lowered (now (s .entry))) at ⌝ }
+{
+    let ReadSign::Match(_, at) = primitive::plus_or_minus(s, at) else {
+        return ReadU32::NoMatch;
+    };
+    let start = primitive::space(s, at);
+    let ReadPlace::Match(at) = primitive::dec_uint_str(s, start) else {
+        return ReadU32::NoMatch;
+    };
+    let ReadU32::Match(nsec, next) = primitive::epoch::fraction(s, at) else {
+        return ReadU32::NoMatch;
+    };
+    ReadU32::Match(nsec, next)
+}
+
+// An offset, unless a relative item stands there: `+8 years` is no offset. The relative item is looked for only where there is an
+// offset, or one out of range.
+pub fn timezone_offset(s: &[u8], at: usize) -> ReadOffset
+    ensures { λ r. ⌜ offsetAnswer r ≡ timezone-offset (lowered (now (s .entry))) at ⌝ }
+{
+    match any_offset(s, at) {
+        ReadOffset::Match(v, next) => unless_relative(s, at, ReadOffset::Match(v, next)),
+        ReadOffset::NoMatch => ReadOffset::NoMatch,
+        ReadOffset::Stop => unless_relative(s, at, ReadOffset::Stop),
+    }
+}
+
+// What was read, or no match where a relative item stands there.
+fn unless_relative(s: &[u8], at: usize, r: ReadOffset) -> ReadOffset
+    ensures { λ a. ⌜ offsetAnswer a ≡ without (parse (lowered (now (s .entry))) at) (offsetAnswer r) ⌝ }
+{
+    if let ReadRelative::Match(_, _) = relative::parse(s, at) {
+        return ReadOffset::NoMatch;
+    }
+    r
+}
+
+fn any_offset(s: &[u8], at: usize) -> ReadOffset
+    ensures { λ r. ⌜ offsetAnswer r ≡ any-offset (lowered (now (s .entry))) at ⌝ }
+{
+    match timezone_offset_colon(s, at) {
+        ReadOffset::Match(v, next) => ReadOffset::Match(v, next),
+        ReadOffset::NoMatch => timezone_offset_colonless(s, at),
+        ReadOffset::Stop => ReadOffset::Stop,
+    }
+}
+
+// Hours and minutes with a colon between them, as `+08:00`, `+8:00`, `+8:0`.
+fn timezone_offset_colon(s: &[u8], at: usize) -> ReadOffset
+    ensures { λ r. ⌜ offsetAnswer r ≡ timezone-offset-colon (lowered (now (s .entry))) at ⌝ }
+{
+    let ReadSign::Match(negative, at) = primitive::plus_or_minus(s, at) else {
+        return ReadOffset::NoMatch;
+    };
+    let ReadU8::Match(hours, at) = primitive::spaced_u8(s, at) else {
+        return ReadOffset::NoMatch;
+    };
+    let ReadPlace::Match(at) = primitive::colon(s, primitive::space(s, at)) else {
+        return ReadOffset::NoMatch;
+    };
+    let ReadU8::Match(minutes, at) = primitive::spaced_u8(s, at) else {
+        return ReadOffset::NoMatch;
+    };
+    offset_of(negative, hours as u64, minutes as u64, at)
+}
+
+// Digits without a colon, as `+0800`, `+800`, `+08`, `+8`. GNU quirk: zeros in front of the last four digits are lost, so that
+// `+0000530` is `+0530`; but `+00005` is 5 minutes, where `+5` is 5 hours.
+fn timezone_offset_colonless(s: &[u8], at: usize) -> ReadOffset
+    ensures { λ r. ⌜ offsetAnswer r ≡ timezone-offset-colonless (lowered (now (s .entry))) at ⌝ }
+{
+    let ReadSign::Match(negative, at) = primitive::plus_or_minus(s, at) else {
+        return ReadOffset::NoMatch;
+    };
+    let start = primitive::space(s, at);
+    let ReadPlace::Match(end) = primitive::dec_uint_str(s, start) else {
+        return ReadOffset::NoMatch;
+    };
+    let ReadU64::Match(n, next) = primitive::parse_uint(s, start, end, 9999) else {
+        return ReadOffset::NoMatch;
+    };
+    digits_offset(negative, end - start, n, next)
+}
+
+// One or two digits are hours; of more, the last two are minutes.
+fn digits_offset(negative: bool, digits: usize, n: u64, next: usize) -> ReadOffset
+    ensures { λ r. ⌜ offsetAnswer r ≡ digits-offset negative digits n [] next ⌝ }
+{
+    if digits <= 2 {
+        return offset_of(negative, n, 0, next);
+    }
+    offset_of(negative, n / 100, n % 100, next)
+}
