@@ -1,15 +1,48 @@
-// A call in a line, made, and its reply.
+// A call, made, and its reply.
 //
 // The functions for hosts are called through crate `seqtullo`, under their names without
 // `seqtullo_`; those that hosts don't have, through crate `extended`.
-ghost use Prim.Native.Nat.{_≤_};
-ghost use lib.ListN.{length};
 use crate::numbers;
-use crate::numbers::Parsed;
+use crate::standing::Standing;
 use extended::DayCount;
 use extended::ExtendedDateTime;
 use extended::Made;
 use seqtullo::Answer;
+
+// The names of the functions by their first eight bytes.
+const NEW: u64 = 0x6e6577;
+
+const FROM_UNIX_SECONDS: u64 = 0x66726f6d5f756e69;
+
+const UNIX_SECONDS: u64 = 0x756e69785f736563;
+
+const ADD_DAYS: u64 = 0x6164645f64617973;
+
+const ADD_HOURS: u64 = 0x6164645f686f7572;
+
+const ADD_MINUTES: u64 = 0x6164645f6d696e75;
+
+const ADD_SECONDS: u64 = 0x6164645f7365636f;
+
+const ADD_YEARS: u64 = 0x6164645f79656172;
+
+const ADD_MONTHS: u64 = 0x6164645f6d6f6e74;
+
+const WEEKDAY: u64 = 0x7765656b646179;
+
+const DAY_OF_YEAR: u64 = 0x6461795f6f665f79;
+
+const DAYS_IN_MONTH: u64 = 0x646179735f696e5f;
+
+const WITH_DATE: u64 = 0x776974685f646174;
+
+const WITH_TIME: u64 = 0x776974685f74696d;
+
+const WITH_OFFSET: u64 = 0x776974685f6f6666;
+
+const WEEKDAY_SUNDAY0: u64 = 0x7765656b6461795f;
+
+const IS_LEAP_YEAR: u64 = 0x69735f6c6561705f;
 
 // What a call gives back, as the numbers to write: a record's answer is its number, its place and the
 // record's eight. No number at all: the line is no call.
@@ -18,95 +51,106 @@ pub struct Reply {
     values: [i64; 10],
 }
 
-// The most arguments that a function has: a record's eight and four more.
-const ARGUMENTS: usize = 12;
-
-pub fn answer_line(line: &[u8]) -> Reply {
-    let end = bytes::scan::find(line, 0, line.len(), b' ');
-    let mut arguments = [0i64; 12];
-    let count = read_arguments(line, end, &mut arguments);
-    let mut bad = false;
-    let reply = call(&line[0..end], count, &arguments, &mut bad);
-    if bad {
+pub fn reply_to(line: Standing, a: &[u64; 12]) -> Reply {
+    let count = line.count;
+    if line.unread {
         return unread();
     }
-    reply
-}
-
-// Reads the numbers from `from` on, each behind one space, and answers how many they are, or 0 where
-// there is none or something else.
-fn read_arguments(line: &[u8], from: usize, arguments: &mut [i64; 12]) -> usize
-    requires { ⌜ from ≤ length (now line) ⌝ }
-{
-    let mut count = 0usize;
-    let mut at = from;
-    while at < line.len() {
-        let end = bytes::scan::find(line, at + 1, line.len(), b' ');
-        let Parsed::Number(value) = numbers::number(&line[at + 1..end]) else {
-            return 0;
-        };
-        if count >= ARGUMENTS {
-            return 0;
-        }
-        arguments[count] = value;
-        count += 1;
-        at = end;
-    }
-    count
-}
-
-fn call(name: &[u8], count: usize, a: &[i64; 12], bad: &mut bool) -> Reply {
     if count < 8 {
-        return number_call(name, count, a, bad);
+        return number_call(line.name, count, a);
     }
-    let record = ExtendedDateTime {
-        year: numbers::to_u32(a[0], bad),
-        month: numbers::to_u8(a[1], bad),
-        day: numbers::to_u8(a[2], bad),
-        hour: numbers::to_u8(a[3], bad),
-        minute: numbers::to_u8(a[4], bad),
-        second: numbers::to_u8(a[5], bad),
-        nanosecond: numbers::to_u32(a[6], bad),
-        offset_seconds: numbers::to_i32(a[7], bad),
-    };
-    if count == 8 {
-        return record_call(name, record);
+    record_call(line.name, count, record(a), a)
+}
+
+fn record(a: &[u64; 12]) -> ExtendedDateTime {
+    ExtendedDateTime {
+        year: numbers::to_u32(a[0]),
+        month: numbers::to_u8(a[1]),
+        day: numbers::to_u8(a[2]),
+        hour: numbers::to_u8(a[3]),
+        minute: numbers::to_u8(a[4]),
+        second: numbers::to_u8(a[5]),
+        nanosecond: numbers::to_u32(a[6]),
+        offset_seconds: numbers::to_i32(numbers::to_i64(a[7])),
     }
-    if count == 9 {
-        return sum_call(name, record, a[8], bad);
-    }
-    change_call(name, record, count, a, bad)
 }
 
 // The functions of one to three numbers.
-fn number_call(name: &[u8], count: usize, a: &[i64; 12], bad: &mut bool) -> Reply {
+fn number_call(name: u64, count: usize, a: &[u64; 12]) -> Reply {
     if count == 1 {
-        if check::same(name, b"is_leap_year") {
-            return plain(extended::is_leap_year(numbers::to_u32(a[0], bad)) as u32);
-        }
-        return unread();
+        return leap_call(name, numbers::to_u32(a[0]));
     }
     if count == 2 {
-        if check::same(name, b"days_in_month") {
-            let year = numbers::to_u32(a[0], bad);
-            let month = numbers::to_u8(a[1], bad);
-            return plain(seqtullo::seqtullo_days_in_month(year, month) as u32);
-        }
-        return unread();
+        return month_call(name, numbers::to_u32(a[0]), numbers::to_u8(a[1]));
     }
     if count == 3 {
-        if check::same(name, b"from_unix_seconds") {
-            let nanosecond = numbers::to_u32(a[1], bad);
-            let offset_seconds = numbers::to_i32(a[2], bad);
-            return answered(seqtullo::seqtullo_from_unix_seconds(a[0], nanosecond, offset_seconds));
-        }
+        return moment_call(
+            name,
+            numbers::to_i64(a[0]),
+            numbers::to_u32(a[1]),
+            numbers::to_i32(numbers::to_i64(a[2])),
+        );
     }
     unread()
 }
 
-// The functions of a record alone.
-fn record_call(name: &[u8], r: ExtendedDateTime) -> Reply {
-    if check::same(name, b"new") {
+fn leap_call(name: u64, year: u32) -> Reply {
+    if name == IS_LEAP_YEAR {
+        return first(1, extended::is_leap_year(year) as u32);
+    }
+    unread()
+}
+
+fn month_call(name: u64, year: u32, month: u8) -> Reply {
+    if name == DAYS_IN_MONTH {
+        return first(1, seqtullo::seqtullo_days_in_month(year, month) as u32);
+    }
+    unread()
+}
+
+fn moment_call(name: u64, unix_seconds: i64, nanosecond: u32, offset_seconds: i32) -> Reply {
+    if name == FROM_UNIX_SECONDS {
+        return answered(seqtullo::seqtullo_from_unix_seconds(
+            unix_seconds,
+            nanosecond,
+            offset_seconds,
+        ));
+    }
+    unread()
+}
+
+// The functions of a record and up to four numbers.
+fn record_call(name: u64, count: usize, r: ExtendedDateTime, a: &[u64; 12]) -> Reply {
+    if count == 8 {
+        return asked(name, r);
+    }
+    if count == 9 {
+        return added(name, r, numbers::to_i64(a[8]));
+    }
+    if count == 10 {
+        return seconds_call(name, r, numbers::to_i64(a[8]), numbers::to_u32(a[9]));
+    }
+    if count == 11 {
+        return date_call(
+            name,
+            r,
+            numbers::to_u32(a[8]),
+            numbers::to_u8(a[9]),
+            numbers::to_u8(a[10]),
+        );
+    }
+    time_call(
+        name,
+        r,
+        numbers::to_u8(a[8]),
+        numbers::to_u8(a[9]),
+        numbers::to_u8(a[10]),
+        numbers::to_u32(a[11]),
+    )
+}
+
+fn asked(name: u64, r: ExtendedDateTime) -> Reply {
+    if name == NEW {
         return answered(seqtullo::seqtullo_new(
             r.year,
             r.month,
@@ -118,92 +162,94 @@ fn record_call(name: &[u8], r: ExtendedDateTime) -> Reply {
             r.offset_seconds,
         ));
     }
-    if check::same(name, b"unix_seconds") {
+    if name == UNIX_SECONDS {
         let moment = seqtullo::seqtullo_unix_seconds(r);
         return pair(moment.number, moment.seconds);
     }
-    if check::same(name, b"weekday") {
+    day_call(name, r)
+}
+
+fn day_call(name: u64, r: ExtendedDateTime) -> Reply {
+    if name == WEEKDAY {
         let day = seqtullo::seqtullo_weekday(r);
         return pair(day.number, day.value as i64);
     }
-    if check::same(name, b"day_of_year") {
+    if name == DAY_OF_YEAR {
         let day = seqtullo::seqtullo_day_of_year(r);
         return pair(day.number, day.value as i64);
     }
-    if check::same(name, b"weekday_sunday0") {
+    if name == WEEKDAY_SUNDAY0 {
         return counted(r.weekday_sunday0());
     }
     unread()
 }
 
-// The functions of a record and one number.
-fn sum_call(name: &[u8], r: ExtendedDateTime, n: i64, bad: &mut bool) -> Reply {
-    if check::same(name, b"add_days") {
+fn added(name: u64, r: ExtendedDateTime, n: i64) -> Reply {
+    if name == ADD_DAYS {
         return answered(seqtullo::seqtullo_add_days(r, n));
     }
-    if check::same(name, b"add_hours") {
+    if name == ADD_HOURS {
         return answered(seqtullo::seqtullo_add_hours(r, n));
     }
-    if check::same(name, b"add_minutes") {
+    if name == ADD_MINUTES {
         return answered(seqtullo::seqtullo_add_minutes(r, n));
     }
-    let small = numbers::to_i32(n, bad);
-    if check::same(name, b"add_years") {
-        return answered(seqtullo::seqtullo_add_years(r, small));
+    added_small(name, r, numbers::to_i32(n))
+}
+
+fn added_small(name: u64, r: ExtendedDateTime, n: i32) -> Reply {
+    if name == ADD_YEARS {
+        return answered(seqtullo::seqtullo_add_years(r, n));
     }
-    if check::same(name, b"add_months") {
-        return answered(seqtullo::seqtullo_add_months(r, small));
+    if name == ADD_MONTHS {
+        return answered(seqtullo::seqtullo_add_months(r, n));
     }
-    if check::same(name, b"with_offset") {
-        return made(r.with_offset(small));
+    if name == WITH_OFFSET {
+        return made(r.with_offset(n));
     }
     unread()
 }
 
-// The functions of a record and two to four numbers.
-fn change_call(
-    name: &[u8],
+fn seconds_call(name: u64, r: ExtendedDateTime, seconds: i64, nanoseconds: u32) -> Reply {
+    if name == ADD_SECONDS {
+        return answered(seqtullo::seqtullo_add_seconds(r, seconds, nanoseconds));
+    }
+    unread()
+}
+
+fn date_call(name: u64, r: ExtendedDateTime, year: u32, month: u8, day: u8) -> Reply {
+    if name == WITH_DATE {
+        return made(r.with_date(year, month, day));
+    }
+    unread()
+}
+
+fn time_call(
+    name: u64,
     r: ExtendedDateTime,
-    count: usize,
-    a: &[i64; 12],
-    bad: &mut bool,
+    hour: u8,
+    minute: u8,
+    second: u8,
+    nanosecond: u32,
 ) -> Reply {
-    if count == 10 {
-        if check::same(name, b"add_seconds") {
-            return answered(seqtullo::seqtullo_add_seconds(r, a[8], numbers::to_u32(a[9], bad)));
-        }
-        return unread();
-    }
-    if count == 11 {
-        if check::same(name, b"with_date") {
-            let year = numbers::to_u32(a[8], bad);
-            let month = numbers::to_u8(a[9], bad);
-            let day = numbers::to_u8(a[10], bad);
-            return made(r.with_date(year, month, day));
-        }
-        return unread();
-    }
-    if check::same(name, b"with_time") {
-        let hour = numbers::to_u8(a[8], bad);
-        let minute = numbers::to_u8(a[9], bad);
-        let second = numbers::to_u8(a[10], bad);
-        let nanosecond = numbers::to_u32(a[11], bad);
+    if name == WITH_TIME {
         return made(r.with_time(hour, minute, second, nanosecond));
     }
     unread()
 }
 
-pub fn unread() -> Reply {
+fn unread() -> Reply {
     Reply {
         count: 0,
         values: [0; 10],
     }
 }
 
-fn plain(value: u32) -> Reply {
+// A number, and zeros up to a count.
+fn first(count: usize, value: u32) -> Reply {
     let mut values = [0i64; 10];
     values[0] = value as i64;
-    Reply { count: 1, values }
+    Reply { count, values }
 }
 
 fn pair(number: u32, value: i64) -> Reply {
@@ -239,11 +285,7 @@ fn made(made: Made) -> Reply {
             place: 0,
             record,
         }),
-        Made::Refused(number) => answered(Answer {
-            number,
-            place: 0,
-            record: ExtendedDateTime::blank(),
-        }),
+        Made::Refused(number) => first(10, number),
     }
 }
 
@@ -255,22 +297,23 @@ fn counted(count: DayCount) -> Reply {
 }
 
 // The numbers in decimal with single spaces.
-pub fn put_reply(out: &mut [u8], at: usize, reply: Reply) -> usize {
+pub fn put_reply(out: &mut [u8; 4096], at: usize, reply: Reply) -> usize {
+    let values = reply.values;
     if reply.count == 0 {
-        return numbers::put_text(out, at, b"unread");
+        return numbers::put(out, at, b'?');
     }
-    put_values(out, at, reply.count, &reply.values)
+    put_values(out, at, &values, reply.count)
 }
 
-fn put_values(out: &mut [u8], at: usize, count: usize, values: &[i64; 10]) -> usize {
-    let mut end = numbers::put_signed(out, at, values[0]);
+fn put_values(out: &mut [u8; 4096], at: usize, values: &[i64; 10], count: usize) -> usize {
+    let mut end = numbers::put_number(out, at, values[0]);
     let mut i = 1usize;
     while i < count {
         if i >= 10 {
             return end;
         }
         let start = numbers::put(out, end, b' ');
-        end = numbers::put_signed(out, start, values[i]);
+        end = numbers::put_number(out, start, values[i]);
         i += 1;
     }
     end

@@ -3,118 +3,85 @@
 // (compare/README.md), so a reply that differs from the Rust's fails the gate.
 //
 // A line is a function's name and its arguments in decimal, with one space before each. A line that
-// is no call, or has 256 bytes or more, is answered by `unread`.
+// has a number beyond i64, no known name or another count of arguments is answered by `?`.
 mod calls;
 mod numbers;
+mod standing;
 
-ghost use Prim.Native.Nat.{_≤_};
-ghost use lib.ListN.{length};
+use standing::Standing;
 
-const NEWLINE: u8 = 10;
-
-// No reply has more bytes.
-const REPLY: usize = 128;
-
-// Where the program stands between two bytes: how many of the line that has not ended stand in the
-// line's buffer, and how many bytes of replies wait to be written.
-struct Standing {
-    length: usize,
-    waiting: usize,
-    more: bool,
-}
-
-fn flush(out: &[u8], waiting: usize) {
-    if waiting <= out.len() {
-        io::write_all(1, &out[0..waiting]);
+fn flush(out: &[u8; 4096], waiting: usize) {
+    let bytes: &[u8] = out;
+    if waiting <= bytes.len() {
+        io::write_all(1, &bytes[0..waiting]);
     }
 }
 
-// Where the next reply begins, after a write where the buffer is nearly full.
-fn room(out: &[u8], waiting: usize) -> usize {
-    if out.len() < REPLY {
-        return waiting;
-    }
-    if waiting <= out.len() - REPLY {
+// The place of the next reply, which has at most 96 bytes, after a write where the buffer is nearly full.
+fn room(out: &[u8; 4096], waiting: usize) -> usize {
+    if waiting <= 4000 {
         return waiting;
     }
     flush(out, waiting);
     0
 }
 
-// The reply to a whole line.
-fn end_line(line: &[u8], length: usize, out: &mut [u8], waiting: usize) -> usize {
-    let start = room(out, waiting);
-    if length < line.len() {
-        let end = calls::put_reply(out, start, calls::answer_line(&line[0..length]));
-        return numbers::put(out, end, NEWLINE);
+fn take_byte(byte: u8, at: Standing, arguments: &mut [u64; 12], out: &mut [u8; 4096]) -> Standing {
+    if byte == b' ' {
+        return at.stored(arguments).next();
     }
-    let end = calls::put_reply(out, start, calls::unread());
-    numbers::put(out, end, NEWLINE)
+    if byte == b'\n' {
+        let line = at.stored(arguments);
+        let start = room(out, line.waiting);
+        let end = calls::put_reply(out, start, calls::reply_to(line, arguments));
+        return standing::start(numbers::put(out, end, b'\n'));
+    }
+    at.with_byte(byte)
 }
 
-fn take_byte(byte: u8, line: &mut [u8], out: &mut [u8], at: Standing) -> Standing {
-    let length = at.length;
-    let waiting = at.waiting;
-    if byte == NEWLINE {
-        return Standing {
-            length: 0,
-            waiting: end_line(line, length, out, waiting),
-            more: true,
-        };
-    }
-    Standing {
-        length: numbers::put(line, length, byte),
-        waiting,
-        more: true,
-    }
-}
-
-fn take_bytes(bytes: &[u8], line: &mut [u8], out: &mut [u8], start: Standing) -> Standing {
+fn take_bytes(
+    bytes: &[u8],
+    start: Standing,
+    arguments: &mut [u64; 12],
+    out: &mut [u8; 4096],
+) -> Standing {
     let mut at = start;
     let mut i = 0usize;
     while i < bytes.len() {
-        at = take_byte(bytes[i], line, out, at);
+        at = take_byte(bytes[i], at, arguments, out);
         i += 1;
     }
     at
 }
 
 // One read, and the replies to the lines that end in it.
-fn turn(line: &mut [u8], out: &mut [u8], at: Standing) -> Standing {
+fn turn(at: Standing, arguments: &mut [u64; 12], out: &mut [u8; 4096]) -> Standing {
     let mut chunk = io::buffer();
     let got = libc::read(0, &mut chunk);
     if got <= 0 {
-        return Standing {
-            length: at.length,
-            waiting: at.waiting,
-            more: false,
-        };
+        return at.end();
     }
     let n = io::count(got, &chunk);
-    take_bytes(&chunk[..n], line, out, at)
+    take_bytes(&chunk[..n], at, arguments, out)
 }
 
 // Nothing says that the input ends, so the turns are counted down from a number that no run uses up.
-fn run(line: &mut [u8], out: &mut [u8]) -> Standing {
-    let mut at = Standing {
-        length: 0,
-        waiting: 0,
-        more: true,
-    };
+fn run(arguments: &mut [u64; 12], out: &mut [u8; 4096]) -> usize {
+    let mut at = standing::start(0);
     let mut turns = u64::MAX;
     while turns > 0 {
-        at = turn(line, out, at);
-        if !at.more {
-            return at;
+        at = turn(at, arguments, out);
+        if at.ended {
+            return at.waiting;
         }
         turns -= 1;
     }
-    at
+    at.waiting
 }
 
 fn main() {
-    let mut line = [0u8; 256];
-    let mut out = io::large_buffer();
-    let at = run(&mut line, &mut out);
-    flush(&out, at.waiting);
+    let mut arguments = [0u64; 12];
+    let mut out = io::buffer();
+    let waiting = run(&mut arguments, &mut out);
+    flush(&out, waiting);
 }

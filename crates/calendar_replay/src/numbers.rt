@@ -1,91 +1,86 @@
-// Decimal numbers, read and written. What does not fit a place is refused on reading; writing stops
-// at the end of the buffer.
-use integers::Checked;
-use integers::Natural;
+// Decimal numbers, read and written. An argument is kept as 2^63 more than its value, which is never
+// below 0.
 
-pub enum Parsed {
-    Number(i64),
-    Unread,
+// More digits than an i64 has, or something else than a digit.
+const UNREAD: u64 = 18446744073709551615;
+
+// 2^63.
+const RAISE: u64 = 9223372036854775808;
+
+// The first eight bytes of a name, as one number of base 256.
+pub fn with_letter(name: u64, byte: u8) -> u64 {
+    if name < 0x100_0000_0000_0000 {
+        return name * 256 + byte as u64;
+    }
+    name
 }
 
-// The number that a text is: digits, with a minus before them or not.
-pub fn number(text: &[u8]) -> Parsed {
-    if text.len() == 0 {
-        return Parsed::Unread;
+pub fn with_digit(digits: u64, byte: u8) -> u64 {
+    if byte < b'0' {
+        return UNREAD;
     }
-    let minus = text[0] == b'-';
-    let mut i = minus as usize;
-    if text.len() <= i {
-        return Parsed::Unread;
+    if byte > b'9' {
+        return UNREAD;
     }
-    let mut value = 0i64;
-    while i < text.len() {
-        let Parsed::Number(next) = with_digit(value, text[i], minus) else {
-            return Parsed::Unread;
-        };
-        value = next;
-        i += 1;
+    if digits > RAISE / 10 {
+        return UNREAD;
     }
-    Parsed::Number(value)
+    digits * 10 + (byte - b'0') as u64
 }
 
-// A number with one digit more.
-fn with_digit(value: i64, glyph: u8, minus: bool) -> Parsed {
-    if glyph < b'0' {
-        return Parsed::Unread;
-    }
-    if glyph > b'9' {
-        return Parsed::Unread;
-    }
-    let Checked::Fits(tenfold) = integers::checked_mul(value, 10) else {
-        return Parsed::Unread;
-    };
-    let Checked::Fits(sum) = integers::checked_add(tenfold, signed(glyph - b'0', minus)) else {
-        return Parsed::Unread;
-    };
-    Parsed::Number(sum)
-}
-
-fn signed(digit: u8, minus: bool) -> i64 {
+// Whether an i64 has these digits behind this sign.
+pub fn is_read(digits: u64, minus: bool) -> bool {
     if minus {
-        return 0 - (digit as i64);
+        return digits <= RAISE;
     }
-    digit as i64
+    digits < RAISE
 }
 
-// Narrower numbers. One that the type can't hold is read as 0, and `bad` is set.
-
-pub fn to_u8(value: i64, bad: &mut bool) -> u8 {
-    let wide = to_u32(value, bad);
-    if wide > 255 {
-        *bad = true;
+pub fn raised(digits: u64, minus: bool) -> u64 {
+    if digits >= RAISE {
         return 0;
     }
-    wide as u8
-}
-
-pub fn to_u32(value: i64, bad: &mut bool) -> u32 {
-    let Natural::At(wide) = integers::to_natural(value) else {
-        *bad = true;
-        return 0;
-    };
-    if wide > 4294967295 {
-        *bad = true;
-        return 0;
+    if minus {
+        return RAISE - digits;
     }
-    wide as u32
+    RAISE + digits
 }
 
-pub fn to_i32(value: i64, bad: &mut bool) -> i32 {
+// An argument in its type. The list has none that its type can't hold: it would be 0.
+
+pub fn to_i64(raised: u64) -> i64 {
+    if raised >= RAISE {
+        return (raised - RAISE) as i64;
+    }
+    -1 - ((9223372036854775807 - raised) as i64)
+}
+
+pub fn to_i32(value: i64) -> i32 {
     if value < -2147483648 {
-        *bad = true;
         return 0;
     }
     if value > 2147483647 {
-        *bad = true;
         return 0;
     }
     value as i32
+}
+
+pub fn to_u32(raised: u64) -> u32 {
+    if raised < RAISE {
+        return 0;
+    }
+    if raised - RAISE > 4294967295 {
+        return 0;
+    }
+    (raised - RAISE) as u32
+}
+
+pub fn to_u8(raised: u64) -> u8 {
+    let value = to_u32(raised);
+    if value > 255 {
+        return 0;
+    }
+    value as u8
 }
 
 pub fn widened(value: i32) -> i64 {
@@ -94,15 +89,15 @@ pub fn widened(value: i32) -> i64 {
 
 // Writing: each function puts its text at `at` and answers where the next one goes.
 
-pub fn put(out: &mut [u8], at: usize, byte: u8) -> usize {
-    if at < out.len() {
+pub fn put(out: &mut [u8; 4096], at: usize, byte: u8) -> usize {
+    if at < 4096 {
         out[at] = byte;
         return at + 1;
     }
     at
 }
 
-pub fn put_text(out: &mut [u8], at: usize, text: &[u8]) -> usize {
+fn put_text(out: &mut [u8; 4096], at: usize, text: &[u8]) -> usize {
     let mut end = at;
     let mut i = 0usize;
     while i < text.len() {
@@ -112,17 +107,17 @@ pub fn put_text(out: &mut [u8], at: usize, text: &[u8]) -> usize {
     end
 }
 
-pub fn put_natural(out: &mut [u8], at: usize, value: u64) -> usize {
+fn put_natural(out: &mut [u8; 4096], at: usize, value: u64) -> usize {
     let mut digits = [0u8; 20];
     let n = io::decimal(value, &mut digits);
     put_text(out, at, &digits[..n])
 }
 
-pub fn put_signed(out: &mut [u8], at: usize, value: i64) -> usize {
+pub fn put_number(out: &mut [u8; 4096], at: usize, value: i64) -> usize {
     let raised = integers::bias(value);
-    if raised < 9223372036854775808 {
+    if raised < RAISE {
         let digits = put(out, at, b'-');
-        return put_natural(out, digits, 9223372036854775808 - raised);
+        return put_natural(out, digits, RAISE - raised);
     }
-    put_natural(out, at, raised - 9223372036854775808)
+    put_natural(out, at, raised - RAISE)
 }

@@ -1,29 +1,25 @@
-use mathlib.Core.Path.{_≡_}
-use lib.ListN.{length}
 use borrow.Author.Needs.{needs}
 use Rattle.calendar_replay.proofs.run.Statement.{statement}
 use Rattle.calendar_replay.proofs.run.Tie as tie
 use Rattle.calendar_replay.proofs.run.Reads as reads
 use Rattle.calendar_replay.proofs.run.Lts as lts
+use Rattle.calendar_replay.proofs.standing.start.Reads as start-reads
 use Rattle.calendar_replay.proofs.turn.Reads as turn-reads
 
 abbrev Inv-loop : tie.InvT-loop
-Inv-loop line₀ out₀ at₀ turns₀ line out at turns = (length line ≡ length line₀) × (length out ≡ length out₀)
+Inv-loop arguments₀ out₀ at₀ turns₀ arguments out at turns = Unit {0}
 
 abbrev μ-loop : tie.MeasureT-loop
-μ-loop line₀ out₀ at₀ turns₀ line out at turns = turns
+μ-loop arguments₀ out₀ at₀ turns₀ arguments out at turns = turns
+
+start-requires : tie.Need-start-requires Inv-loop μ-loop
+start-requires c κs = search needs
 
 loop-holds : tie.Need-loop-holds Inv-loop μ-loop
 loop-holds c = search needs
 
 turn-requires : tie.Need-turn-requires Inv-loop μ-loop
 turn-requires c κs = search needs
-
-same-length : tie.Need-same-length Inv-loop μ-loop
-same-length c = search needs
-
-same-length-2 : tie.Need-same-length-2 Inv-loop μ-loop
-same-length-2 c = search needs
 
 returns : tie.Need-returns Inv-loop μ-loop
 returns c = search needs
@@ -37,12 +33,6 @@ loop-less c = search needs
 loop-again : tie.Need-loop-again Inv-loop μ-loop
 loop-again c = search needs
 
-same-length-3 : tie.Need-same-length-3 Inv-loop μ-loop
-same-length-3 c = search needs
-
-same-length-4 : tie.Need-same-length-4 Inv-loop μ-loop
-same-length-4 c = search needs
-
 returns-2 : tie.Need-returns-2 Inv-loop μ-loop
 returns-2 c = search needs
 
@@ -52,14 +42,11 @@ run-spec =
     (tie.spec
     Inv-loop
     μ-loop
+    start-requires
     loop-holds
     turn-requires
-    same-length
-    same-length-2
     returns
     sub-turns
     loop-less
     loop-again
-    same-length-3
-    same-length-4
     returns-2)

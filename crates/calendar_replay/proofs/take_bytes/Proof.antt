@@ -1,4 +1,3 @@
-use mathlib.Core.Path.{_≡_}
 use Prim.Native.Nat.{_≤_, _-_}
 use lib.ListN.{length}
 use borrow.Author.Needs.{needs}
@@ -9,10 +8,10 @@ use Rattle.calendar_replay.proofs.take_bytes.Lts as lts
 use Rattle.calendar_replay.proofs.take_byte.Reads as take-byte-reads
 
 abbrev Inv-loop : tie.InvT-loop
-Inv-loop bytes line₀ out₀ at₀ i₀ line out at i = (i ≤ length bytes) × (length line ≡ length line₀) × (length out ≡ length out₀)
+Inv-loop bytes arguments₀ out₀ at₀ i₀ arguments out at i = i ≤ length bytes
 
 abbrev μ-loop : tie.MeasureT-loop
-μ-loop bytes line₀ out₀ at₀ i₀ line out at i = length bytes - i
+μ-loop bytes arguments₀ out₀ at₀ i₀ arguments out at i = length bytes - i
 
 loop-holds : tie.Need-loop-holds Inv-loop μ-loop
 loop-holds c = search needs
@@ -32,12 +31,6 @@ loop-less c = search needs
 loop-again : tie.Need-loop-again Inv-loop μ-loop
 loop-again c = search needs
 
-same-length : tie.Need-same-length Inv-loop μ-loop
-same-length c = search needs
-
-same-length-2 : tie.Need-same-length-2 Inv-loop μ-loop
-same-length-2 c = search needs
-
 returns : tie.Need-returns Inv-loop μ-loop
 returns c = search needs
 
@@ -53,6 +46,4 @@ take-bytes-spec =
     add-i
     loop-less
     loop-again
-    same-length
-    same-length-2
     returns)

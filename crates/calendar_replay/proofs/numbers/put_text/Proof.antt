@@ -1,4 +1,3 @@
-use mathlib.Core.Path.{_≡_}
 use Prim.Native.Nat.{_≤_, _-_}
 use lib.ListN.{length}
 use borrow.Author.Needs.{needs}
@@ -9,7 +8,7 @@ use Rattle.calendar_replay.proofs.numbers.put_text.Lts as lts
 use Rattle.calendar_replay.proofs.numbers.put.Reads as put-reads
 
 abbrev Inv-loop : tie.InvT-loop
-Inv-loop out₀ at text end₀ i₀ out end i = (i ≤ length text) × (length out ≡ length out₀)
+Inv-loop out₀ at text end₀ i₀ out end i = i ≤ length text
 
 abbrev μ-loop : tie.MeasureT-loop
 μ-loop out₀ at text end₀ i₀ out end i = length text - i
@@ -32,9 +31,6 @@ loop-less c = search needs
 loop-again : tie.Need-loop-again Inv-loop μ-loop
 loop-again c = search needs
 
-same-length : tie.Need-same-length Inv-loop μ-loop
-same-length c = search needs
-
 returns : tie.Need-returns Inv-loop μ-loop
 returns c = search needs
 
@@ -50,5 +46,4 @@ put-text-spec =
     add-i
     loop-less
     loop-again
-    same-length
     returns)

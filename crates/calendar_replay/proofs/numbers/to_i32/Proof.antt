@@ -7,7 +7,6 @@ use lib.Signed.{ltZ}
 use mir.Syntax.{w32}
 use mir.Val.{SFits}
 use mir.Facts.{toZ-ofZ}
-use borrow.Author.Needs.{needs}
 use borrow.Author.Tests.{ltb-false}
 use Rattle.calendar_replay.proofs.numbers.to_i32.Statement.{statement}
 use Rattle.calendar_replay.proofs.numbers.to_i32.Tie as tie
@@ -17,10 +16,10 @@ within (pos n) p q = record { sfits = omega (arith, ltb-false 2147483647 n q) }
 within (negsuc n) p q = record { sfits = omega (arith, ltb-false 2147483647 n p) }
 
 returns : tie.Need-returns
-returns c = search needs
+returns c = tt
 
 returns-2 : tie.Need-returns-2
-returns-2 c = search needs
+returns-2 c = tt
 
 cast-result : tie.Need-cast-result
 cast-result c =
@@ -28,7 +27,7 @@ cast-result c =
     rw is (within (c .before .before .args .value) (rw is at (c .before .if1 .left)) (rw is at (c .if2 .left)))
 
 returns-3 : tie.Need-returns-3
-returns-3 c = search needs
+returns-3 c = tt
 
 pub to-i32-spec : {M : Type 1} → statement M
 to-i32-spec = tie.close (tie.spec returns returns-2 cast-result returns-3)
