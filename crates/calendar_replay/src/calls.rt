@@ -1,13 +1,14 @@
-// A call, made, and its reply.
+// A call, made.
 //
 // The functions for hosts are called through crate `seqtullo`, under their names without
 // `seqtullo_`; those that hosts don't have, through crate `extended`.
 use crate::numbers;
+use crate::replies;
+use crate::replies::Reply;
 use crate::standing::Standing;
-use extended::DayCount;
 use extended::ExtendedDateTime;
-use extended::Made;
 use seqtullo::Answer;
+use seqtullo::Number;
 
 // The names of the functions by their first eight bytes.
 const NEW: u64 = 0x6e6577;
@@ -44,277 +45,183 @@ const WEEKDAY_SUNDAY0: u64 = 0x7765656b6461795f;
 
 const IS_LEAP_YEAR: u64 = 0x69735f6c6561705f;
 
-// What a call gives back, as the numbers to write: a record's answer is its number, its place and the
-// record's eight. No number at all: the line is no call.
-pub struct Reply {
-    count: usize,
-    values: [i64; 10],
-}
+// The number that no answer has: of a line that is no call.
+const UNREAD: u32 = 99;
 
 pub fn reply_to(line: Standing, a: &[u64; 12]) -> Reply {
     let count = line.count;
     if line.unread {
-        return unread();
+        return replies::first(1, UNREAD);
     }
-    if count < 8 {
-        return number_call(line.name, count, a);
+    if count < 3 {
+        return year_call(line.name, count, a);
     }
-    record_call(line.name, count, record(a), a)
+    if count == 8 {
+        return asked(line.name, record(a));
+    }
+    replies::answered(answer(line.name, count, a))
 }
 
 fn record(a: &[u64; 12]) -> ExtendedDateTime {
     ExtendedDateTime {
-        year: numbers::to_u32(a[0]),
-        month: numbers::to_u8(a[1]),
-        day: numbers::to_u8(a[2]),
-        hour: numbers::to_u8(a[3]),
-        minute: numbers::to_u8(a[4]),
-        second: numbers::to_u8(a[5]),
-        nanosecond: numbers::to_u32(a[6]),
-        offset_seconds: numbers::to_i32(numbers::to_i64(a[7])),
+        year: numbers::u32_at(a, 0),
+        month: numbers::u8_at(a, 1),
+        day: numbers::u8_at(a, 2),
+        hour: numbers::u8_at(a, 3),
+        minute: numbers::u8_at(a, 4),
+        second: numbers::u8_at(a, 5),
+        nanosecond: numbers::u32_at(a, 6),
+        offset_seconds: numbers::i32_at(a, 7),
     }
 }
 
-// The functions of one to three numbers.
-fn number_call(name: u64, count: usize, a: &[u64; 12]) -> Reply {
+// The functions of a year, and of a year and a month.
+fn year_call(name: u64, count: usize, a: &[u64; 12]) -> Reply {
+    let year = numbers::u32_at(a, 0);
+    let month = numbers::u8_at(a, 1);
     if count == 1 {
-        return leap_call(name, numbers::to_u32(a[0]));
+        if name == IS_LEAP_YEAR {
+            return replies::first(1, extended::is_leap_year(year) as u32);
+        }
     }
     if count == 2 {
-        return month_call(name, numbers::to_u32(a[0]), numbers::to_u8(a[1]));
+        if name == DAYS_IN_MONTH {
+            return replies::first(1, seqtullo::seqtullo_days_in_month(year, month) as u32);
+        }
     }
-    if count == 3 {
-        return moment_call(
-            name,
-            numbers::to_i64(a[0]),
-            numbers::to_u32(a[1]),
-            numbers::to_i32(numbers::to_i64(a[2])),
-        );
-    }
-    unread()
+    replies::first(1, UNREAD)
 }
 
-fn leap_call(name: u64, year: u32) -> Reply {
-    if name == IS_LEAP_YEAR {
-        return first(1, extended::is_leap_year(year) as u32);
-    }
-    unread()
-}
-
-fn month_call(name: u64, year: u32, month: u8) -> Reply {
-    if name == DAYS_IN_MONTH {
-        return first(1, seqtullo::seqtullo_days_in_month(year, month) as u32);
-    }
-    unread()
-}
-
-fn moment_call(name: u64, unix_seconds: i64, nanosecond: u32, offset_seconds: i32) -> Reply {
-    if name == FROM_UNIX_SECONDS {
-        return answered(seqtullo::seqtullo_from_unix_seconds(
-            unix_seconds,
-            nanosecond,
-            offset_seconds,
-        ));
-    }
-    unread()
-}
-
-// The functions of a record and up to four numbers.
-fn record_call(name: u64, count: usize, r: ExtendedDateTime, a: &[u64; 12]) -> Reply {
-    if count == 8 {
-        return asked(name, r);
-    }
-    if count == 9 {
-        return added(name, r, numbers::to_i64(a[8]));
-    }
-    if count == 10 {
-        return seconds_call(name, r, numbers::to_i64(a[8]), numbers::to_u32(a[9]));
-    }
-    if count == 11 {
-        return date_call(
-            name,
-            r,
-            numbers::to_u32(a[8]),
-            numbers::to_u8(a[9]),
-            numbers::to_u8(a[10]),
-        );
-    }
-    time_call(
-        name,
-        r,
-        numbers::to_u8(a[8]),
-        numbers::to_u8(a[9]),
-        numbers::to_u8(a[10]),
-        numbers::to_u32(a[11]),
-    )
-}
-
+// The functions of a record alone.
 fn asked(name: u64, r: ExtendedDateTime) -> Reply {
     if name == NEW {
-        return answered(seqtullo::seqtullo_new(
-            r.year,
-            r.month,
-            r.day,
-            r.hour,
-            r.minute,
-            r.second,
-            r.nanosecond,
-            r.offset_seconds,
-        ));
+        return replies::answered(tested(r));
     }
     if name == UNIX_SECONDS {
         let moment = seqtullo::seqtullo_unix_seconds(r);
-        return pair(moment.number, moment.seconds);
+        return replies::pair(moment.number, moment.seconds);
     }
-    day_call(name, r)
+    replies::counted(counted(name, r))
 }
 
-fn day_call(name: u64, r: ExtendedDateTime) -> Reply {
+fn tested(r: ExtendedDateTime) -> Answer {
+    seqtullo::seqtullo_new(
+        r.year,
+        r.month,
+        r.day,
+        r.hour,
+        r.minute,
+        r.second,
+        r.nanosecond,
+        r.offset_seconds,
+    )
+}
+
+fn counted(name: u64, r: ExtendedDateTime) -> Number {
     if name == WEEKDAY {
-        let day = seqtullo::seqtullo_weekday(r);
-        return pair(day.number, day.value as i64);
+        return seqtullo::seqtullo_weekday(r);
     }
     if name == DAY_OF_YEAR {
-        let day = seqtullo::seqtullo_day_of_year(r);
-        return pair(day.number, day.value as i64);
+        return seqtullo::seqtullo_day_of_year(r);
     }
     if name == WEEKDAY_SUNDAY0 {
-        return counted(r.weekday_sunday0());
+        return replies::day(r.weekday_sunday0());
     }
-    unread()
+    Number {
+        number: UNREAD,
+        value: 0,
+    }
 }
 
-fn added(name: u64, r: ExtendedDateTime, n: i64) -> Reply {
+// The functions that give a record, but for `new`.
+fn answer(name: u64, count: usize, a: &[u64; 12]) -> Answer {
+    if count == 3 {
+        return moment_call(name, a);
+    }
+    if count == 9 {
+        return added(name, record(a), numbers::i64_at(a, 8));
+    }
+    if count > 9 {
+        return changed(name, count, record(a), a);
+    }
+    replies::refused(UNREAD)
+}
+
+fn moment_call(name: u64, a: &[u64; 12]) -> Answer {
+    if name == FROM_UNIX_SECONDS {
+        return seqtullo::seqtullo_from_unix_seconds(
+            numbers::i64_at(a, 0),
+            numbers::u32_at(a, 1),
+            numbers::i32_at(a, 2),
+        );
+    }
+    replies::refused(UNREAD)
+}
+
+// The functions of a record and one number.
+fn added(name: u64, r: ExtendedDateTime, n: i64) -> Answer {
     if name == ADD_DAYS {
-        return answered(seqtullo::seqtullo_add_days(r, n));
+        return seqtullo::seqtullo_add_days(r, n);
     }
     if name == ADD_HOURS {
-        return answered(seqtullo::seqtullo_add_hours(r, n));
+        return seqtullo::seqtullo_add_hours(r, n);
     }
     if name == ADD_MINUTES {
-        return answered(seqtullo::seqtullo_add_minutes(r, n));
+        return seqtullo::seqtullo_add_minutes(r, n);
     }
-    added_small(name, r, numbers::to_i32(n))
+    moved(name, r, numbers::narrowed(n))
 }
 
-fn added_small(name: u64, r: ExtendedDateTime, n: i32) -> Reply {
+fn moved(name: u64, r: ExtendedDateTime, n: i32) -> Answer {
     if name == ADD_YEARS {
-        return answered(seqtullo::seqtullo_add_years(r, n));
+        return seqtullo::seqtullo_add_years(r, n);
     }
     if name == ADD_MONTHS {
-        return answered(seqtullo::seqtullo_add_months(r, n));
+        return seqtullo::seqtullo_add_months(r, n);
     }
     if name == WITH_OFFSET {
-        return made(r.with_offset(n));
+        return replies::made(r.with_offset(n));
     }
-    unread()
+    replies::refused(UNREAD)
 }
 
-fn seconds_call(name: u64, r: ExtendedDateTime, seconds: i64, nanoseconds: u32) -> Reply {
+// The functions of a record and two to four numbers.
+fn changed(name: u64, count: usize, r: ExtendedDateTime, a: &[u64; 12]) -> Answer {
+    if count == 10 {
+        return seconds_call(name, r, a);
+    }
+    if count == 11 {
+        return date_call(name, r, a);
+    }
+    time_call(name, r, a)
+}
+
+fn seconds_call(name: u64, r: ExtendedDateTime, a: &[u64; 12]) -> Answer {
     if name == ADD_SECONDS {
-        return answered(seqtullo::seqtullo_add_seconds(r, seconds, nanoseconds));
+        return seqtullo::seqtullo_add_seconds(r, numbers::i64_at(a, 8), numbers::u32_at(a, 9));
     }
-    unread()
+    replies::refused(UNREAD)
 }
 
-fn date_call(name: u64, r: ExtendedDateTime, year: u32, month: u8, day: u8) -> Reply {
+fn date_call(name: u64, r: ExtendedDateTime, a: &[u64; 12]) -> Answer {
     if name == WITH_DATE {
-        return made(r.with_date(year, month, day));
+        return replies::made(r.with_date(
+            numbers::u32_at(a, 8),
+            numbers::u8_at(a, 9),
+            numbers::u8_at(a, 10),
+        ));
     }
-    unread()
+    replies::refused(UNREAD)
 }
 
-fn time_call(
-    name: u64,
-    r: ExtendedDateTime,
-    hour: u8,
-    minute: u8,
-    second: u8,
-    nanosecond: u32,
-) -> Reply {
+fn time_call(name: u64, r: ExtendedDateTime, a: &[u64; 12]) -> Answer {
     if name == WITH_TIME {
-        return made(r.with_time(hour, minute, second, nanosecond));
+        return replies::made(r.with_time(
+            numbers::u8_at(a, 8),
+            numbers::u8_at(a, 9),
+            numbers::u8_at(a, 10),
+            numbers::u32_at(a, 11),
+        ));
     }
-    unread()
-}
-
-fn unread() -> Reply {
-    Reply {
-        count: 0,
-        values: [0; 10],
-    }
-}
-
-// A number, and zeros up to a count.
-fn first(count: usize, value: u32) -> Reply {
-    let mut values = [0i64; 10];
-    values[0] = value as i64;
-    Reply { count, values }
-}
-
-fn pair(number: u32, value: i64) -> Reply {
-    let mut values = [0i64; 10];
-    values[0] = number as i64;
-    values[1] = value;
-    Reply { count: 2, values }
-}
-
-fn answered(answer: Answer) -> Reply {
-    let r = answer.record;
-    let values = [
-        answer.number as i64,
-        answer.place as i64,
-        r.year as i64,
-        r.month as i64,
-        r.day as i64,
-        r.hour as i64,
-        r.minute as i64,
-        r.second as i64,
-        r.nanosecond as i64,
-        numbers::widened(r.offset_seconds),
-    ];
-    Reply { count: 10, values }
-}
-
-// What crate `extended` answers, in the form for hosts.
-
-fn made(made: Made) -> Reply {
-    match made {
-        Made::Record(record) => answered(Answer {
-            number: 0,
-            place: 0,
-            record,
-        }),
-        Made::Refused(number) => first(10, number),
-    }
-}
-
-fn counted(count: DayCount) -> Reply {
-    match count {
-        DayCount::Days(value) => pair(0, value as i64),
-        DayCount::Refused(number) => pair(number, 0),
-    }
-}
-
-// The numbers in decimal with single spaces.
-pub fn put_reply(out: &mut [u8; 4096], at: usize, reply: Reply) -> usize {
-    let values = reply.values;
-    if reply.count == 0 {
-        return numbers::put(out, at, b'?');
-    }
-    put_values(out, at, &values, reply.count)
-}
-
-fn put_values(out: &mut [u8; 4096], at: usize, values: &[i64; 10], count: usize) -> usize {
-    let mut end = numbers::put_number(out, at, values[0]);
-    let mut i = 1usize;
-    while i < count {
-        if i >= 10 {
-            return end;
-        }
-        let start = numbers::put(out, end, b' ');
-        end = numbers::put_number(out, start, values[i]);
-        i += 1;
-    }
-    end
+    replies::refused(UNREAD)
 }

@@ -3,9 +3,10 @@
 // (compare/README.md), so a reply that differs from the Rust's fails the gate.
 //
 // A line is a function's name and its arguments in decimal, with one space before each. A line that
-// has a number beyond i64, no known name or another count of arguments is answered by `?`.
+// has a number beyond i64, no known name or another count of arguments gets a reply that no call has.
 mod calls;
 mod numbers;
+mod replies;
 mod standing;
 
 use standing::Standing;
@@ -26,15 +27,19 @@ fn room(out: &[u8; 4096], waiting: usize) -> usize {
     0
 }
 
+// Writes the reply to a line that has ended.
+fn answer(line: Standing, arguments: &[u64; 12], out: &mut [u8; 4096]) -> Standing {
+    let start = room(out, line.waiting);
+    let end = replies::put(out, start, calls::reply_to(line, arguments));
+    standing::start(end)
+}
+
 fn take_byte(byte: u8, at: Standing, arguments: &mut [u64; 12], out: &mut [u8; 4096]) -> Standing {
     if byte == b' ' {
         return at.stored(arguments).next();
     }
     if byte == b'\n' {
-        let line = at.stored(arguments);
-        let start = room(out, line.waiting);
-        let end = calls::put_reply(out, start, calls::reply_to(line, arguments));
-        return standing::start(numbers::put(out, end, b'\n'));
+        return answer(at.stored(arguments), arguments, out);
     }
     at.with_byte(byte)
 }
@@ -54,34 +59,26 @@ fn take_bytes(
     at
 }
 
-// One read, and the replies to the lines that end in it.
-fn turn(at: Standing, arguments: &mut [u64; 12], out: &mut [u8; 4096]) -> Standing {
-    let mut chunk = io::buffer();
-    let got = libc::read(0, &mut chunk);
-    if got <= 0 {
-        return at.end();
-    }
-    let n = io::count(got, &chunk);
-    take_bytes(&chunk[..n], at, arguments, out)
-}
-
-// Nothing says that the input ends, so the turns are counted down from a number that no run uses up.
-fn run(arguments: &mut [u64; 12], out: &mut [u8; 4096]) -> usize {
+// Reads to the end and answers how many bytes of replies still wait. Nothing says that the input ends,
+// so the turns are counted down from a number that no run uses up.
+fn run(chunk: &mut [u8], arguments: &mut [u64; 12], out: &mut [u8; 4096]) -> usize {
     let mut at = standing::start(0);
     let mut turns = u64::MAX;
     while turns > 0 {
-        at = turn(at, arguments, out);
-        if at.ended {
+        let n = io::read_full(0, chunk);
+        if n == 0 {
             return at.waiting;
         }
+        at = take_bytes(&chunk[0..n], at, arguments, out);
         turns -= 1;
     }
     at.waiting
 }
 
 fn main() {
+    let mut chunk = io::buffer();
     let mut arguments = [0u64; 12];
     let mut out = io::buffer();
-    let waiting = run(&mut arguments, &mut out);
+    let waiting = run(&mut chunk, &mut arguments, &mut out);
     flush(&out, waiting);
 }

@@ -48,24 +48,23 @@ pub fn raised(digits: u64, minus: bool) -> u64 {
 
 // An argument in its type. The list has none that its type can't hold: it would be 0.
 
-pub fn to_i64(raised: u64) -> i64 {
-    if raised >= RAISE {
-        return (raised - RAISE) as i64;
+fn at(arguments: &[u64; 12], i: usize) -> u64 {
+    if i < 12 {
+        return arguments[i];
     }
-    -1 - ((9223372036854775807 - raised) as i64)
+    0
 }
 
-pub fn to_i32(value: i64) -> i32 {
-    if value < -2147483648 {
-        return 0;
-    }
-    if value > 2147483647 {
-        return 0;
-    }
-    value as i32
+pub fn i64_at(arguments: &[u64; 12], i: usize) -> i64 {
+    lowered(at(arguments, i))
 }
 
-pub fn to_u32(raised: u64) -> u32 {
+pub fn i32_at(arguments: &[u64; 12], i: usize) -> i32 {
+    narrowed(lowered(at(arguments, i)))
+}
+
+pub fn u32_at(arguments: &[u64; 12], i: usize) -> u32 {
+    let raised = at(arguments, i);
     if raised < RAISE {
         return 0;
     }
@@ -75,30 +74,47 @@ pub fn to_u32(raised: u64) -> u32 {
     (raised - RAISE) as u32
 }
 
-pub fn to_u8(raised: u64) -> u8 {
-    let value = to_u32(raised);
+pub fn u8_at(arguments: &[u64; 12], i: usize) -> u8 {
+    let value = u32_at(arguments, i);
     if value > 255 {
         return 0;
     }
     value as u8
 }
 
+fn lowered(raised: u64) -> i64 {
+    if raised >= RAISE {
+        return (raised - RAISE) as i64;
+    }
+    -1 - ((9223372036854775807 - raised) as i64)
+}
+
+pub fn narrowed(value: i64) -> i32 {
+    if value < -2147483648 {
+        return 0;
+    }
+    if value > 2147483647 {
+        return 0;
+    }
+    value as i32
+}
+
 pub fn widened(value: i32) -> i64 {
     value as i64
 }
 
-// Writing: each function puts its text at `at` and answers where the next one goes.
+// Writing: each function puts its text at `place` and answers where the next one goes.
 
-pub fn put(out: &mut [u8; 4096], at: usize, byte: u8) -> usize {
-    if at < 4096 {
-        out[at] = byte;
-        return at + 1;
+pub fn put(out: &mut [u8; 4096], place: usize, byte: u8) -> usize {
+    if place < 4096 {
+        out[place] = byte;
+        return place + 1;
     }
-    at
+    place
 }
 
-fn put_text(out: &mut [u8; 4096], at: usize, text: &[u8]) -> usize {
-    let mut end = at;
+fn put_text(out: &mut [u8; 4096], place: usize, text: &[u8]) -> usize {
+    let mut end = place;
     let mut i = 0usize;
     while i < text.len() {
         end = put(out, end, text[i]);
@@ -107,17 +123,17 @@ fn put_text(out: &mut [u8; 4096], at: usize, text: &[u8]) -> usize {
     end
 }
 
-fn put_natural(out: &mut [u8; 4096], at: usize, value: u64) -> usize {
+fn put_natural(out: &mut [u8; 4096], place: usize, value: u64) -> usize {
     let mut digits = [0u8; 20];
     let n = io::decimal(value, &mut digits);
-    put_text(out, at, &digits[..n])
+    put_text(out, place, &digits[..n])
 }
 
-pub fn put_number(out: &mut [u8; 4096], at: usize, value: i64) -> usize {
+pub fn put_number(out: &mut [u8; 4096], place: usize, value: i64) -> usize {
     let raised = integers::bias(value);
     if raised < RAISE {
-        let digits = put(out, at, b'-');
+        let digits = put(out, place, b'-');
         return put_natural(out, digits, RAISE - raised);
     }
-    put_natural(out, at, raised - RAISE)
+    put_natural(out, place, raised - RAISE)
 }

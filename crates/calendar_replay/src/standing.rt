@@ -11,8 +11,6 @@ pub struct Standing {
     pub minus: bool,
     // Something on the line can't be read.
     pub unread: bool,
-    // The input has ended.
-    pub ended: bool,
     // How many bytes of replies wait to be written.
     pub waiting: usize,
 }
@@ -25,18 +23,11 @@ pub fn start(waiting: usize) -> Standing {
         digits: 0,
         minus: false,
         unread: false,
-        ended: false,
         waiting,
     }
 }
 
 impl Standing {
-    // Behind the input's end.
-    pub fn end(mut self) -> Standing {
-        self.ended = true;
-        self
-    }
-
     // Behind the space before an argument.
     pub fn next(mut self) -> Standing {
         self.digits = 0;

@@ -1,16 +1,19 @@
+use mathlib.Core.Path.{_≡_}
+use lib.ListN.{length}
 use borrow.Author.Needs.{needs}
 use Rattle.calendar_replay.proofs.run.Statement.{statement}
 use Rattle.calendar_replay.proofs.run.Tie as tie
 use Rattle.calendar_replay.proofs.run.Reads as reads
 use Rattle.calendar_replay.proofs.run.Lts as lts
 use Rattle.calendar_replay.proofs.standing.start.Reads as start-reads
-use Rattle.calendar_replay.proofs.turn.Reads as turn-reads
+use Rattle.calendar_replay.proofs.take_bytes.Reads as take-bytes-reads
+use Rattle.io.proofs.read_full.Reads as read-full-reads
 
 abbrev Inv-loop : tie.InvT-loop
-Inv-loop arguments₀ out₀ at₀ turns₀ arguments out at turns = Unit {0}
+Inv-loop chunk₀ arguments₀ out₀ at₀ turns₀ chunk arguments out at turns = length chunk ≡ length chunk₀
 
 abbrev μ-loop : tie.MeasureT-loop
-μ-loop arguments₀ out₀ at₀ turns₀ arguments out at turns = turns
+μ-loop chunk₀ arguments₀ out₀ at₀ turns₀ chunk arguments out at turns = turns
 
 start-requires : tie.Need-start-requires Inv-loop μ-loop
 start-requires c κs = search needs
@@ -18,11 +21,26 @@ start-requires c κs = search needs
 loop-holds : tie.Need-loop-holds Inv-loop μ-loop
 loop-holds c = search needs
 
-turn-requires : tie.Need-turn-requires Inv-loop μ-loop
-turn-requires c κs = search needs
+read-full-requires : tie.Need-read-full-requires Inv-loop μ-loop
+read-full-requires c κs = search needs
+
+same-length : tie.Need-same-length Inv-loop μ-loop
+same-length c = search needs
 
 returns : tie.Need-returns Inv-loop μ-loop
 returns c = search needs
+
+sub-take-bytes : tie.Need-sub-take-bytes Inv-loop μ-loop
+sub-take-bytes c = search needs
+
+part-take-bytes-start : tie.Need-part-take-bytes-start Inv-loop μ-loop
+part-take-bytes-start c = search needs
+
+part-take-bytes-end : tie.Need-part-take-bytes-end Inv-loop μ-loop
+part-take-bytes-end c = search needs
+
+take-bytes-requires : tie.Need-take-bytes-requires Inv-loop μ-loop
+take-bytes-requires c κs = search needs
 
 sub-turns : tie.Need-sub-turns Inv-loop μ-loop
 sub-turns c = search needs
@@ -32,6 +50,9 @@ loop-less c = search needs
 
 loop-again : tie.Need-loop-again Inv-loop μ-loop
 loop-again c = search needs
+
+same-length-2 : tie.Need-same-length-2 Inv-loop μ-loop
+same-length-2 c = search needs
 
 returns-2 : tie.Need-returns-2 Inv-loop μ-loop
 returns-2 c = search needs
@@ -44,9 +65,15 @@ run-spec =
     μ-loop
     start-requires
     loop-holds
-    turn-requires
+    read-full-requires
+    same-length
     returns
+    sub-take-bytes
+    part-take-bytes-start
+    part-take-bytes-end
+    take-bytes-requires
     sub-turns
     loop-less
     loop-again
+    same-length-2
     returns-2)

@@ -8,10 +8,10 @@ use Rattle.calendar_replay.proofs.numbers.put_text.Lts as lts
 use Rattle.calendar_replay.proofs.numbers.put.Reads as put-reads
 
 abbrev Inv-loop : tie.InvT-loop
-Inv-loop out₀ at text end₀ i₀ out end i = i ≤ length text
+Inv-loop out₀ place text end₀ i₀ out end i = i ≤ length text
 
 abbrev μ-loop : tie.MeasureT-loop
-μ-loop out₀ at text end₀ i₀ out end i = length text - i
+μ-loop out₀ place text end₀ i₀ out end i = length text - i
 
 loop-holds : tie.Need-loop-holds Inv-loop μ-loop
 loop-holds c = search needs

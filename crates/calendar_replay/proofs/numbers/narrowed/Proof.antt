@@ -1,4 +1,4 @@
--- `calendar_replay::numbers::to_i32` is safe: a number between the ends of i32 fits it. Assumes nothing.
+-- `calendar_replay::numbers::narrowed` is safe: a number between the ends of i32 fits it. Assumes nothing.
 use mathlib.Core.Path.{_≡_}
 use mathlib.Core.Bool.{false}
 use native.Mathlib.Omega.{arith}
@@ -8,8 +8,8 @@ use mir.Syntax.{w32}
 use mir.Val.{SFits}
 use mir.Facts.{toZ-ofZ}
 use borrow.Author.Tests.{ltb-false}
-use Rattle.calendar_replay.proofs.numbers.to_i32.Statement.{statement}
-use Rattle.calendar_replay.proofs.numbers.to_i32.Tie as tie
+use Rattle.calendar_replay.proofs.numbers.narrowed.Statement.{statement}
+use Rattle.calendar_replay.proofs.numbers.narrowed.Tie as tie
 
 within : (x : ℤ) → ltZ x (negsuc 2147483647) ≡ false → ltZ (pos 2147483647) x ≡ false → SFits w32 x
 within (pos n) p q = record { sfits = omega (arith, ltb-false 2147483647 n q) }
@@ -29,5 +29,5 @@ cast-result c =
 returns-3 : tie.Need-returns-3
 returns-3 c = tt
 
-pub to-i32-spec : {M : Type 1} → statement M
-to-i32-spec = tie.close (tie.spec returns returns-2 cast-result returns-3)
+pub narrowed-spec : {M : Type 1} → statement M
+narrowed-spec = tie.close (tie.spec returns returns-2 cast-result returns-3)

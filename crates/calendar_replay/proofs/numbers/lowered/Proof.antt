@@ -1,4 +1,4 @@
--- `calendar_replay::numbers::to_i64` is safe: -1 less a natural number below 2^63 fits. Assumes nothing.
+-- `calendar_replay::numbers::lowered` is safe: -1 less a natural number below 2^63 fits. Assumes nothing.
 use Prim.Native.Nat.{ℕ, zero, suc, _-_, _<_}
 use mathlib.Core.Path.{_≡_, refl, ap}
 use native.Mathlib.Omega.{arith}
@@ -8,8 +8,8 @@ use mir.Syntax.{w64}
 use mir.Val.{SFits}
 use mir.Facts.{toZ-pos}
 use borrow.Author.Needs.{needs}
-use Rattle.calendar_replay.proofs.numbers.to_i64.Statement.{statement}
-use Rattle.calendar_replay.proofs.numbers.to_i64.Tie as tie
+use Rattle.calendar_replay.proofs.numbers.lowered.Statement.{statement}
+use Rattle.calendar_replay.proofs.numbers.lowered.Tie as tie
 
 below-zero : (n : ℕ) → negsuc 0 -ℤ pos n ≡ negsuc n
 below-zero zero = refl
@@ -35,5 +35,5 @@ sub-result-2 c =
 returns-2 : tie.Need-returns-2
 returns-2 c = tt
 
-pub to-i64-spec : {M : Type 1} → statement M
-to-i64-spec = tie.close (tie.spec cast-result returns sub-result cast-result-2 sub-result-2 returns-2)
+pub lowered-spec : {M : Type 1} → statement M
+lowered-spec = tie.close (tie.spec cast-result returns sub-result cast-result-2 sub-result-2 returns-2)
