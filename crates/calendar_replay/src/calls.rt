@@ -1,16 +1,14 @@
-// A call, made.
-//
-// The functions for hosts are called through crate `seqtullo`, under their names without
-// `seqtullo_`; those that hosts don't have, through crate `extended`.
+// A call, made. The functions for hosts have their names without `seqtullo_`, the others those of
+// crate `extended`.
 use crate::numbers;
 use crate::replies;
 use crate::replies::Reply;
-use crate::standing::Standing;
+use extended::DateParts;
 use extended::ExtendedDateTime;
-use seqtullo::Answer;
-use seqtullo::Number;
+use extended::Made;
+use extended::TimeParts;
 
-// The names of the functions by their first eight bytes.
+// The names by their first eight bytes.
 const NEW: u64 = 0x6e6577;
 
 const FROM_UNIX_SECONDS: u64 = 0x66726f6d5f756e69;
@@ -45,183 +43,127 @@ const WEEKDAY_SUNDAY0: u64 = 0x7765656b6461795f;
 
 const IS_LEAP_YEAR: u64 = 0x69735f6c6561705f;
 
-// The number that no answer has: of a line that is no call.
-const UNREAD: u32 = 99;
+// The reply to a line without a known name: a number that no answer has.
+const UNKNOWN: u32 = 99;
 
-pub fn reply_to(line: Standing, a: &[u64; 12]) -> Reply {
-    let count = line.count;
-    if line.unread {
-        return replies::first(1, UNREAD);
+// The arguments `a` stand from place 1 on.
+pub fn reply_to(name: u64, a: &[u64; 13]) -> Reply {
+    if name == IS_LEAP_YEAR {
+        return replies::single(extended::is_leap_year(numbers::u32_at(a, 1)) as u32);
     }
-    if count < 3 {
-        return year_call(line.name, count, a);
+    if name == DAYS_IN_MONTH {
+        return replies::single(
+            extended::days_in_month(numbers::u32_at(a, 1), numbers::u8_at(a, 2)) as u32,
+        );
     }
-    if count == 8 {
-        return asked(line.name, record(a));
+    if name == FROM_UNIX_SECONDS {
+        return replies::of_record(from_unix_seconds(a));
     }
-    replies::answered(answer(line.name, count, a))
+    asked(name, record(a), a)
 }
 
-fn record(a: &[u64; 12]) -> ExtendedDateTime {
-    ExtendedDateTime {
-        year: numbers::u32_at(a, 0),
-        month: numbers::u8_at(a, 1),
-        day: numbers::u8_at(a, 2),
-        hour: numbers::u8_at(a, 3),
-        minute: numbers::u8_at(a, 4),
-        second: numbers::u8_at(a, 5),
-        nanosecond: numbers::u32_at(a, 6),
-        offset_seconds: numbers::i32_at(a, 7),
-    }
-}
-
-// The functions of a year, and of a year and a month.
-fn year_call(name: u64, count: usize, a: &[u64; 12]) -> Reply {
-    let year = numbers::u32_at(a, 0);
-    let month = numbers::u8_at(a, 1);
-    if count == 1 {
-        if name == IS_LEAP_YEAR {
-            return replies::first(1, extended::is_leap_year(year) as u32);
-        }
-    }
-    if count == 2 {
-        if name == DAYS_IN_MONTH {
-            return replies::first(1, seqtullo::seqtullo_days_in_month(year, month) as u32);
-        }
-    }
-    replies::first(1, UNREAD)
-}
-
-// The functions of a record alone.
-fn asked(name: u64, r: ExtendedDateTime) -> Reply {
-    if name == NEW {
-        return replies::answered(tested(r));
-    }
-    if name == UNIX_SECONDS {
-        let moment = seqtullo::seqtullo_unix_seconds(r);
-        return replies::pair(moment.number, moment.seconds);
-    }
-    replies::counted(counted(name, r))
-}
-
-fn tested(r: ExtendedDateTime) -> Answer {
-    seqtullo::seqtullo_new(
-        r.year,
-        r.month,
-        r.day,
-        r.hour,
-        r.minute,
-        r.second,
-        r.nanosecond,
-        r.offset_seconds,
+fn from_unix_seconds(a: &[u64; 13]) -> Made {
+    ExtendedDateTime::from_unix_seconds(
+        numbers::i64_at(a, 1),
+        numbers::u32_at(a, 2),
+        numbers::i32_at(a, 3),
     )
 }
 
-fn counted(name: u64, r: ExtendedDateTime) -> Number {
-    if name == WEEKDAY {
-        return seqtullo::seqtullo_weekday(r);
+fn record(a: &[u64; 13]) -> ExtendedDateTime {
+    ExtendedDateTime {
+        year: numbers::u32_at(a, 1),
+        month: numbers::u8_at(a, 2),
+        day: numbers::u8_at(a, 3),
+        hour: numbers::u8_at(a, 4),
+        minute: numbers::u8_at(a, 5),
+        second: numbers::u8_at(a, 6),
+        nanosecond: numbers::u32_at(a, 7),
+        offset_seconds: numbers::i32_at(a, 8),
     }
-    if name == DAY_OF_YEAR {
-        return seqtullo::seqtullo_day_of_year(r);
+}
+
+// The functions of a record: first those that give a number.
+fn asked(name: u64, r: ExtendedDateTime, a: &[u64; 13]) -> Reply {
+    if name == UNIX_SECONDS {
+        return replies::of_seconds(r.unix_seconds());
+    }
+    if name == WEEKDAY {
+        return replies::of_days(r.weekday_monday0());
     }
     if name == WEEKDAY_SUNDAY0 {
-        return replies::day(r.weekday_sunday0());
+        return replies::of_days(r.weekday_sunday0());
     }
-    Number {
-        number: UNREAD,
-        value: 0,
+    if name == DAY_OF_YEAR {
+        return replies::of_days(r.day_of_year());
     }
+    replies::of_record(added(name, r, a))
 }
 
-// The functions that give a record, but for `new`.
-fn answer(name: u64, count: usize, a: &[u64; 12]) -> Answer {
-    if count == 3 {
-        return moment_call(name, a);
-    }
-    if count == 9 {
-        return added(name, record(a), numbers::i64_at(a, 8));
-    }
-    if count > 9 {
-        return changed(name, count, record(a), a);
-    }
-    replies::refused(UNREAD)
-}
-
-fn moment_call(name: u64, a: &[u64; 12]) -> Answer {
-    if name == FROM_UNIX_SECONDS {
-        return seqtullo::seqtullo_from_unix_seconds(
-            numbers::i64_at(a, 0),
-            numbers::u32_at(a, 1),
-            numbers::i32_at(a, 2),
-        );
-    }
-    replies::refused(UNREAD)
-}
-
-// The functions of a record and one number.
-fn added(name: u64, r: ExtendedDateTime, n: i64) -> Answer {
+fn added(name: u64, r: ExtendedDateTime, a: &[u64; 13]) -> Made {
+    let count = numbers::i64_at(a, 9);
     if name == ADD_DAYS {
-        return seqtullo::seqtullo_add_days(r, n);
+        return r.checked_add_days(count);
     }
     if name == ADD_HOURS {
-        return seqtullo::seqtullo_add_hours(r, n);
+        return r.checked_add_hours(count);
     }
     if name == ADD_MINUTES {
-        return seqtullo::seqtullo_add_minutes(r, n);
+        return r.checked_add_minutes(count);
     }
-    moved(name, r, numbers::narrowed(n))
+    if name == ADD_SECONDS {
+        return r.checked_add_seconds(count, numbers::u32_at(a, 10));
+    }
+    moved(name, r, a)
 }
 
-fn moved(name: u64, r: ExtendedDateTime, n: i32) -> Answer {
+fn moved(name: u64, r: ExtendedDateTime, a: &[u64; 13]) -> Made {
+    let count = numbers::i32_at(a, 9);
     if name == ADD_YEARS {
-        return seqtullo::seqtullo_add_years(r, n);
+        return r.checked_add_years(count);
     }
     if name == ADD_MONTHS {
-        return seqtullo::seqtullo_add_months(r, n);
+        return r.checked_add_months(count);
     }
     if name == WITH_OFFSET {
-        return replies::made(r.with_offset(n));
+        return r.with_offset(count);
     }
-    replies::refused(UNREAD)
+    changed(name, r, a)
 }
 
-// The functions of a record and two to four numbers.
-fn changed(name: u64, count: usize, r: ExtendedDateTime, a: &[u64; 12]) -> Answer {
-    if count == 10 {
-        return seconds_call(name, r, a);
-    }
-    if count == 11 {
-        return date_call(name, r, a);
-    }
-    time_call(name, r, a)
-}
-
-fn seconds_call(name: u64, r: ExtendedDateTime, a: &[u64; 12]) -> Answer {
-    if name == ADD_SECONDS {
-        return seqtullo::seqtullo_add_seconds(r, numbers::i64_at(a, 8), numbers::u32_at(a, 9));
-    }
-    replies::refused(UNREAD)
-}
-
-fn date_call(name: u64, r: ExtendedDateTime, a: &[u64; 12]) -> Answer {
+fn changed(name: u64, r: ExtendedDateTime, a: &[u64; 13]) -> Made {
     if name == WITH_DATE {
-        return replies::made(r.with_date(
-            numbers::u32_at(a, 8),
+        return r.with_date(
+            numbers::u32_at(a, 9),
+            numbers::u8_at(a, 10),
+            numbers::u8_at(a, 11),
+        );
+    }
+    if name == WITH_TIME {
+        return r.with_time(
             numbers::u8_at(a, 9),
             numbers::u8_at(a, 10),
-        ));
+            numbers::u8_at(a, 11),
+            numbers::u32_at(a, 12),
+        );
     }
-    replies::refused(UNREAD)
+    if name == NEW {
+        return new(r);
+    }
+    Made::Refused(UNKNOWN)
 }
 
-fn time_call(name: u64, r: ExtendedDateTime, a: &[u64; 12]) -> Answer {
-    if name == WITH_TIME {
-        return replies::made(r.with_time(
-            numbers::u8_at(a, 8),
-            numbers::u8_at(a, 9),
-            numbers::u8_at(a, 10),
-            numbers::u32_at(a, 11),
-        ));
-    }
-    replies::refused(UNREAD)
+fn new(r: ExtendedDateTime) -> Made {
+    let date = DateParts {
+        year: r.year,
+        month: r.month,
+        day: r.day,
+    };
+    let time = TimeParts {
+        hour: r.hour,
+        minute: r.minute,
+        second: r.second,
+        nanosecond: r.nanosecond,
+    };
+    ExtendedDateTime::new(date, time, r.offset_seconds)
 }

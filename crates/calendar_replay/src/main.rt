@@ -2,8 +2,8 @@
 // each as one line. The list in `stdin` and the replies in `stdout` come from the Rust alone
 // (compare/README.md), so a reply that differs from the Rust's fails the gate.
 //
-// A line is a function's name and its arguments in decimal, with one space before each. A line that
-// has a number beyond i64, no known name or another count of arguments gets a reply that no call has.
+// A line is a function's name and its arguments in decimal, with one space before each. A line with
+// a number beyond i64 or without a known name is answered by 99, which no call is.
 mod calls;
 mod numbers;
 mod replies;
@@ -11,74 +11,58 @@ mod standing;
 
 use standing::Standing;
 
-fn flush(out: &[u8; 4096], waiting: usize) {
+// Each reply is put together in a buffer from its end to its start, and written at once.
+fn answer(name: u64, arguments: &[u64; 13]) {
+    let mut out = [0u8; 96];
+    let from = replies::put(&mut out, calls::reply_to(name, arguments));
+    write_from(&out, from);
+}
+
+fn write_from(out: &[u8; 96], from: usize) {
     let bytes: &[u8] = out;
-    if waiting <= bytes.len() {
-        io::write_all(1, &bytes[0..waiting]);
+    if from <= bytes.len() {
+        io::write_all(1, &bytes[from..]);
     }
 }
 
-// The place of the next reply, which has at most 96 bytes, after a write where the buffer is nearly full.
-fn room(out: &[u8; 4096], waiting: usize) -> usize {
-    if waiting <= 4000 {
-        return waiting;
+fn take_byte(byte: u8, at: Standing, arguments: &mut [u64; 13]) -> Standing {
+    if byte > b' ' {
+        return at.with_byte(byte);
     }
-    flush(out, waiting);
-    0
-}
-
-// Writes the reply to a line that has ended.
-fn answer(line: Standing, arguments: &[u64; 12], out: &mut [u8; 4096]) -> Standing {
-    let start = room(out, line.waiting);
-    let end = replies::put(out, start, calls::reply_to(line, arguments));
-    standing::start(end)
-}
-
-fn take_byte(byte: u8, at: Standing, arguments: &mut [u64; 12], out: &mut [u8; 4096]) -> Standing {
+    let word = at.stored(arguments);
     if byte == b' ' {
-        return at.stored(arguments).next();
+        return word;
     }
-    if byte == b'\n' {
-        return answer(at.stored(arguments), arguments, out);
-    }
-    at.with_byte(byte)
+    answer(word.name, arguments);
+    standing::start()
 }
 
-fn take_bytes(
-    bytes: &[u8],
-    start: Standing,
-    arguments: &mut [u64; 12],
-    out: &mut [u8; 4096],
-) -> Standing {
+fn take_bytes(bytes: &[u8], start: Standing, arguments: &mut [u64; 13]) -> Standing {
     let mut at = start;
     let mut i = 0usize;
     while i < bytes.len() {
-        at = take_byte(bytes[i], at, arguments, out);
+        at = take_byte(bytes[i], at, arguments);
         i += 1;
     }
     at
 }
 
-// Reads to the end and answers how many bytes of replies still wait. Nothing says that the input ends,
-// so the turns are counted down from a number that no run uses up.
-fn run(chunk: &mut [u8], arguments: &mut [u64; 12], out: &mut [u8; 4096]) -> usize {
-    let mut at = standing::start(0);
+// Nothing says that the input ends, so the turns are counted down from a number that no run uses up.
+fn run(chunk: &mut [u8], arguments: &mut [u64; 13]) {
+    let mut at = standing::start();
     let mut turns = u64::MAX;
     while turns > 0 {
         let n = io::read_full(0, chunk);
         if n == 0 {
-            return at.waiting;
+            return;
         }
-        at = take_bytes(&chunk[0..n], at, arguments, out);
+        at = take_bytes(&chunk[0..n], at, arguments);
         turns -= 1;
     }
-    at.waiting
 }
 
 fn main() {
     let mut chunk = io::buffer();
-    let mut arguments = [0u64; 12];
-    let mut out = io::buffer();
-    let waiting = run(&mut chunk, &mut arguments, &mut out);
-    flush(&out, waiting);
+    let mut arguments = [0u64; 13];
+    run(&mut chunk, &mut arguments);
 }

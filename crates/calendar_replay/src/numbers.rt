@@ -1,5 +1,5 @@
 // Decimal numbers, read and written. An argument is kept as 2^63 more than its value, which is never
-// below 0.
+// below 0, in the place that its word has on the line.
 
 // More digits than an i64 has, or something else than a digit.
 const UNREAD: u64 = 18446744073709551615;
@@ -28,12 +28,12 @@ pub fn with_digit(digits: u64, byte: u8) -> u64 {
     digits * 10 + (byte - b'0') as u64
 }
 
-// Whether an i64 has these digits behind this sign.
-pub fn is_read(digits: u64, minus: bool) -> bool {
+// The largest number that an i64 has behind a sign.
+pub fn largest(minus: bool) -> u64 {
     if minus {
-        return digits <= RAISE;
+        return RAISE;
     }
-    digits < RAISE
+    RAISE - 1
 }
 
 pub fn raised(digits: u64, minus: bool) -> u64 {
@@ -48,23 +48,19 @@ pub fn raised(digits: u64, minus: bool) -> u64 {
 
 // An argument in its type. The list has none that its type can't hold: it would be 0.
 
-fn at(arguments: &[u64; 12], i: usize) -> u64 {
-    if i < 12 {
-        return arguments[i];
+pub fn u8_at(arguments: &[u64; 13], i: usize) -> u8 {
+    let value = u32_at(arguments, i);
+    if value > 255 {
+        return 0;
     }
-    0
+    value as u8
 }
 
-pub fn i64_at(arguments: &[u64; 12], i: usize) -> i64 {
-    lowered(at(arguments, i))
-}
-
-pub fn i32_at(arguments: &[u64; 12], i: usize) -> i32 {
-    narrowed(lowered(at(arguments, i)))
-}
-
-pub fn u32_at(arguments: &[u64; 12], i: usize) -> u32 {
-    let raised = at(arguments, i);
+pub fn u32_at(arguments: &[u64; 13], i: usize) -> u32 {
+    if i > 12 {
+        return 0;
+    }
+    let raised = arguments[i];
     if raised < RAISE {
         return 0;
     }
@@ -74,12 +70,15 @@ pub fn u32_at(arguments: &[u64; 12], i: usize) -> u32 {
     (raised - RAISE) as u32
 }
 
-pub fn u8_at(arguments: &[u64; 12], i: usize) -> u8 {
-    let value = u32_at(arguments, i);
-    if value > 255 {
+pub fn i32_at(arguments: &[u64; 13], i: usize) -> i32 {
+    narrowed(i64_at(arguments, i))
+}
+
+pub fn i64_at(arguments: &[u64; 13], i: usize) -> i64 {
+    if i > 12 {
         return 0;
     }
-    value as u8
+    lowered(arguments[i])
 }
 
 fn lowered(raised: u64) -> i64 {
@@ -89,7 +88,7 @@ fn lowered(raised: u64) -> i64 {
     -1 - ((9223372036854775807 - raised) as i64)
 }
 
-pub fn narrowed(value: i64) -> i32 {
+fn narrowed(value: i64) -> i32 {
     if value < -2147483648 {
         return 0;
     }
@@ -103,37 +102,37 @@ pub fn widened(value: i32) -> i64 {
     value as i64
 }
 
-// Writing: each function puts its text at `place` and answers where the next one goes.
+// Writing, from the end of a buffer to its start: each function puts its text before `place` and
+// answers where it begins.
 
-pub fn put(out: &mut [u8; 4096], place: usize, byte: u8) -> usize {
-    if place < 4096 {
-        out[place] = byte;
-        return place + 1;
+pub fn put(out: &mut [u8; 96], place: usize, byte: u8) -> usize {
+    if place == 0 {
+        return 0;
     }
-    place
-}
-
-fn put_text(out: &mut [u8; 4096], place: usize, text: &[u8]) -> usize {
-    let mut end = place;
-    let mut i = 0usize;
-    while i < text.len() {
-        end = put(out, end, text[i]);
-        i += 1;
+    if place > 96 {
+        return 0;
     }
-    end
+    out[place - 1] = byte;
+    place - 1
 }
 
-fn put_natural(out: &mut [u8; 4096], place: usize, value: u64) -> usize {
-    let mut digits = [0u8; 20];
-    let n = io::decimal(value, &mut digits);
-    put_text(out, place, &digits[..n])
+fn put_natural(out: &mut [u8; 96], place: usize, value: u64) -> usize {
+    let mut start = place;
+    let mut rest = value;
+    loop {
+        start = put(out, start, b'0' + (rest % 10) as u8);
+        if rest < 10 {
+            return start;
+        }
+        rest /= 10;
+    }
 }
 
-pub fn put_number(out: &mut [u8; 4096], place: usize, value: i64) -> usize {
+pub fn put_number(out: &mut [u8; 96], place: usize, value: i64) -> usize {
     let raised = integers::bias(value);
     if raised < RAISE {
-        let digits = put(out, place, b'-');
-        return put_natural(out, digits, RAISE - raised);
+        let start = put_natural(out, place, RAISE - raised);
+        return put(out, start, b'-');
     }
     put_natural(out, place, raised - RAISE)
 }

@@ -1,41 +1,48 @@
-// Replies, in the order in which their numbers are written.
+// Replies: 0 and what the call gives, or the number of its refusal alone.
 use crate::numbers;
 use extended::DayCount;
-use extended::ExtendedDateTime;
 use extended::Made;
-use seqtullo::Answer;
-use seqtullo::Number;
+use extended::UnixSeconds;
 
-// A record's answer has ten numbers: its number, its place and the record's eight. A moment and a count
-// have two, a plain value one, and a line that is no call none.
+// The numbers of a reply, as many as are counted.
 pub struct Reply {
     count: usize,
-    values: [i64; 10],
+    values: [i64; 9],
 }
 
-// A number, and zeros up to a count.
-pub fn first(count: usize, value: u32) -> Reply {
-    let mut values = [0i64; 10];
+pub fn single(value: u32) -> Reply {
+    let mut values = [0i64; 9];
     values[0] = value as i64;
-    Reply { count, values }
+    Reply { count: 1, values }
 }
 
-pub fn pair(number: u32, value: i64) -> Reply {
-    let mut values = [0i64; 10];
-    values[0] = number as i64;
+fn pair(value: i64) -> Reply {
+    let mut values = [0i64; 9];
     values[1] = value;
     Reply { count: 2, values }
 }
 
-pub fn counted(count: Number) -> Reply {
-    pair(count.number, count.value as i64)
+pub fn of_days(days: DayCount) -> Reply {
+    match days {
+        DayCount::Days(value) => pair(value as i64),
+        DayCount::Refused(number) => single(number),
+    }
 }
 
-pub fn answered(answer: Answer) -> Reply {
-    let r = answer.record;
+pub fn of_seconds(seconds: UnixSeconds) -> Reply {
+    match seconds {
+        UnixSeconds::At(value) => pair(value),
+        UnixSeconds::Refused(number) => single(number),
+    }
+}
+
+// A record has its eight numbers in order.
+pub fn of_record(made: Made) -> Reply {
+    let Made::Record(r) = made else {
+        return refused(made);
+    };
     let values = [
-        answer.number as i64,
-        answer.place as i64,
+        0,
         r.year as i64,
         r.month as i64,
         r.day as i64,
@@ -45,61 +52,32 @@ pub fn answered(answer: Answer) -> Reply {
         r.nanosecond as i64,
         numbers::widened(r.offset_seconds),
     ];
-    Reply { count: 10, values }
+    Reply { count: 9, values }
 }
 
-// What crate `extended` answers, in the form for hosts.
-
-pub fn made(made: Made) -> Answer {
-    match made {
-        Made::Record(record) => Answer {
-            number: 0,
-            place: 0,
-            record,
-        },
-        Made::Refused(number) => refused(number),
-    }
+fn refused(made: Made) -> Reply {
+    let Made::Refused(number) = made else {
+        return single(0);
+    };
+    single(number)
 }
 
-pub fn refused(number: u32) -> Answer {
-    Answer {
-        number,
-        place: 0,
-        record: ExtendedDateTime::blank(),
-    }
-}
-
-pub fn day(count: DayCount) -> Number {
-    match count {
-        DayCount::Days(value) => Number { number: 0, value },
-        DayCount::Refused(number) => Number { number, value: 0 },
-    }
-}
-
-// The numbers in decimal with single spaces, and the line's end.
-pub fn put(out: &mut [u8; 4096], place: usize, reply: Reply) -> usize {
+// Puts a reply's line at the end of a buffer and answers where it begins. A space stands before each
+// number, and the first is left out.
+pub fn put(out: &mut [u8; 96], reply: Reply) -> usize {
     let values = reply.values;
-    let end = put_values(out, place, &values, reply.count);
-    numbers::put(out, end, b'\n')
-}
-
-fn put_values(out: &mut [u8; 4096], place: usize, values: &[i64; 10], count: usize) -> usize {
-    let mut end = place;
-    let mut i = 0usize;
-    while i < count {
-        if i >= 10 {
-            return end;
+    let mut i = reply.count;
+    let mut place = numbers::put(out, 96, b'\n');
+    while i > 0 {
+        i -= 1;
+        if i > 8 {
+            return 96;
         }
-        end = put_value(out, end, values[i], i > 0);
-        i += 1;
+        let start = numbers::put_number(out, place, values[i]);
+        place = numbers::put(out, start, b' ');
     }
-    end
-}
-
-fn put_value(out: &mut [u8; 4096], place: usize, value: i64, behind: bool) -> usize {
-    if behind {
-        let start = numbers::put(out, place, b' ');
-        return numbers::put_number(out, start, value);
+    if place < 96 {
+        return place + 1;
     }
-    numbers::put_number(out, place, value)
+    96
 }

@@ -1,46 +1,41 @@
-// Where the program stands between two bytes of its input.
+// Where the program stands between two bytes of a line.
 use crate::numbers;
 
 pub struct Standing {
-    // The first eight bytes of the line's name, as one number of base 256.
+    // The first eight bytes of the line's name, as one number of base 256. A line on which something
+    // can't be read loses its name.
     pub name: u64,
-    // The arguments that have begun.
-    pub count: usize,
-    // The last of them: its digits, and whether a minus stands before them.
-    pub digits: u64,
-    pub minus: bool,
-    // Something on the line can't be read.
-    pub unread: bool,
-    // How many bytes of replies wait to be written.
-    pub waiting: usize,
+    // The words that have ended; the first is the name.
+    words: usize,
+    // The argument so far: its digits, and whether a minus stands before them.
+    digits: u64,
+    minus: bool,
 }
 
 // At the start of a line.
-pub fn start(waiting: usize) -> Standing {
+pub fn start() -> Standing {
     Standing {
         name: 0,
-        count: 0,
+        words: 0,
         digits: 0,
         minus: false,
-        unread: false,
-        waiting,
+    }
+}
+
+// Behind a word that can't be read.
+fn lost() -> Standing {
+    Standing {
+        name: 0,
+        words: 1,
+        digits: 0,
+        minus: false,
     }
 }
 
 impl Standing {
-    // Behind the space before an argument.
-    pub fn next(mut self) -> Standing {
-        self.digits = 0;
-        self.minus = false;
-        if self.count < 100 {
-            self.count += 1;
-        }
-        self
-    }
-
-    // Behind a byte of a name or an argument.
+    // Behind a byte of a word.
     pub fn with_byte(mut self, byte: u8) -> Standing {
-        if self.count == 0 {
+        if self.words == 0 {
             self.name = numbers::with_letter(self.name, byte);
             return self;
         }
@@ -52,21 +47,21 @@ impl Standing {
         self
     }
 
-    // With the last argument put in its place.
-    pub fn stored(mut self, arguments: &mut [u64; 12]) -> Standing {
-        let count = self.count;
-        if count == 0 {
-            return self;
+    // Behind a word, with an argument put in its place.
+    pub fn stored(self, arguments: &mut [u64; 13]) -> Standing {
+        let words = self.words;
+        if words > 12 {
+            return lost();
         }
-        if count > 12 {
-            self.unread = true;
-            return self;
+        if self.digits > numbers::largest(self.minus) {
+            return lost();
         }
-        if !numbers::is_read(self.digits, self.minus) {
-            self.unread = true;
-            return self;
+        arguments[words] = numbers::raised(self.digits, self.minus);
+        Standing {
+            name: self.name,
+            words: words + 1,
+            digits: 0,
+            minus: false,
         }
-        arguments[count - 1] = numbers::raised(self.digits, self.minus);
-        self
     }
 }

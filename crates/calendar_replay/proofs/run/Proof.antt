@@ -10,10 +10,10 @@ use Rattle.calendar_replay.proofs.take_bytes.Reads as take-bytes-reads
 use Rattle.io.proofs.read_full.Reads as read-full-reads
 
 abbrev Inv-loop : tie.InvT-loop
-Inv-loop chunk₀ arguments₀ out₀ at₀ turns₀ chunk arguments out at turns = length chunk ≡ length chunk₀
+Inv-loop chunk₀ arguments₀ at₀ turns₀ chunk arguments at turns = length chunk ≡ length chunk₀
 
 abbrev μ-loop : tie.MeasureT-loop
-μ-loop chunk₀ arguments₀ out₀ at₀ turns₀ chunk arguments out at turns = turns
+μ-loop chunk₀ arguments₀ at₀ turns₀ chunk arguments at turns = turns
 
 start-requires : tie.Need-start-requires Inv-loop μ-loop
 start-requires c κs = search needs

@@ -8,10 +8,10 @@ use Rattle.calendar_replay.proofs.take_bytes.Lts as lts
 use Rattle.calendar_replay.proofs.take_byte.Reads as take-byte-reads
 
 abbrev Inv-loop : tie.InvT-loop
-Inv-loop bytes arguments₀ out₀ at₀ i₀ arguments out at i = i ≤ length bytes
+Inv-loop bytes arguments₀ at₀ i₀ arguments at i = i ≤ length bytes
 
 abbrev μ-loop : tie.MeasureT-loop
-μ-loop bytes arguments₀ out₀ at₀ i₀ arguments out at i = length bytes - i
+μ-loop bytes arguments₀ at₀ i₀ arguments at i = length bytes - i
 
 loop-holds : tie.Need-loop-holds Inv-loop μ-loop
 loop-holds c = search needs
