@@ -49,12 +49,11 @@ const UNKNOWN: u32 = 99;
 // The arguments `a` stand from place 1 on.
 pub fn reply_to(name: u64, a: &[u64; 13]) -> Reply {
     if name == IS_LEAP_YEAR {
-        return replies::single(extended::is_leap_year(numbers::u32_at(a, 1)) as u32);
+        return replies::of_numbers(1, extended::is_leap_year(numbers::u32_at(a, 1)) as u32, 0);
     }
     if name == DAYS_IN_MONTH {
-        return replies::single(
-            extended::days_in_month(numbers::u32_at(a, 1), numbers::u8_at(a, 2)) as u32,
-        );
+        let days = extended::days_in_month(numbers::u32_at(a, 1), numbers::u8_at(a, 2));
+        return replies::of_numbers(1, days as u32, 0);
     }
     if name == FROM_UNIX_SECONDS {
         return replies::of_record(from_unix_seconds(a));
@@ -66,7 +65,7 @@ fn from_unix_seconds(a: &[u64; 13]) -> Made {
     ExtendedDateTime::from_unix_seconds(
         numbers::i64_at(a, 1),
         numbers::u32_at(a, 2),
-        numbers::i32_at(a, 3),
+        numbers::narrowed(numbers::i64_at(a, 3)),
     )
 }
 
@@ -79,7 +78,7 @@ fn record(a: &[u64; 13]) -> ExtendedDateTime {
         minute: numbers::u8_at(a, 5),
         second: numbers::u8_at(a, 6),
         nanosecond: numbers::u32_at(a, 7),
-        offset_seconds: numbers::i32_at(a, 8),
+        offset_seconds: numbers::narrowed(numbers::i64_at(a, 8)),
     }
 }
 
@@ -118,7 +117,7 @@ fn added(name: u64, r: ExtendedDateTime, a: &[u64; 13]) -> Made {
 }
 
 fn moved(name: u64, r: ExtendedDateTime, a: &[u64; 13]) -> Made {
-    let count = numbers::i32_at(a, 9);
+    let count = numbers::narrowed(numbers::i64_at(a, 9));
     if name == ADD_YEARS {
         return r.checked_add_years(count);
     }

@@ -34,7 +34,7 @@ fn take_byte(byte: u8, at: Standing, arguments: &mut [u64; 13]) -> Standing {
         return word;
     }
     answer(word.name, arguments);
-    standing::start()
+    standing::unnamed(0)
 }
 
 fn take_bytes(bytes: &[u8], start: Standing, arguments: &mut [u64; 13]) -> Standing {
@@ -49,7 +49,7 @@ fn take_bytes(bytes: &[u8], start: Standing, arguments: &mut [u64; 13]) -> Stand
 
 // Nothing says that the input ends, so the turns are counted down from a number that no run uses up.
 fn run(chunk: &mut [u8], arguments: &mut [u64; 13]) {
-    let mut at = standing::start();
+    let mut at = standing::unnamed(0);
     let mut turns = u64::MAX;
     while turns > 0 {
         let n = io::read_full(0, chunk);

@@ -7,14 +7,6 @@ const UNREAD: u64 = 18446744073709551615;
 // 2^63.
 const RAISE: u64 = 9223372036854775808;
 
-// The first eight bytes of a name, as one number of base 256.
-pub fn with_letter(name: u64, byte: u8) -> u64 {
-    if name < 0x100_0000_0000_0000 {
-        return name * 256 + byte as u64;
-    }
-    name
-}
-
 pub fn with_digit(digits: u64, byte: u8) -> u64 {
     if byte < b'0' {
         return UNREAD;
@@ -70,10 +62,6 @@ pub fn u32_at(arguments: &[u64; 13], i: usize) -> u32 {
     (raised - RAISE) as u32
 }
 
-pub fn i32_at(arguments: &[u64; 13], i: usize) -> i32 {
-    narrowed(i64_at(arguments, i))
-}
-
 pub fn i64_at(arguments: &[u64; 13], i: usize) -> i64 {
     if i > 12 {
         return 0;
@@ -88,7 +76,7 @@ fn lowered(raised: u64) -> i64 {
     -1 - ((9223372036854775807 - raised) as i64)
 }
 
-fn narrowed(value: i64) -> i32 {
+pub fn narrowed(value: i64) -> i32 {
     if value < -2147483648 {
         return 0;
     }

@@ -10,29 +10,25 @@ pub struct Reply {
     values: [i64; 9],
 }
 
-pub fn single(value: u32) -> Reply {
+// The first number, and a second where two are counted.
+pub fn of_numbers(count: usize, first: u32, second: i64) -> Reply {
     let mut values = [0i64; 9];
-    values[0] = value as i64;
-    Reply { count: 1, values }
-}
-
-fn pair(value: i64) -> Reply {
-    let mut values = [0i64; 9];
-    values[1] = value;
-    Reply { count: 2, values }
+    values[0] = first as i64;
+    values[1] = second;
+    Reply { count, values }
 }
 
 pub fn of_days(days: DayCount) -> Reply {
     match days {
-        DayCount::Days(value) => pair(value as i64),
-        DayCount::Refused(number) => single(number),
+        DayCount::Days(value) => of_numbers(2, 0, value as i64),
+        DayCount::Refused(number) => of_numbers(1, number, 0),
     }
 }
 
 pub fn of_seconds(seconds: UnixSeconds) -> Reply {
     match seconds {
-        UnixSeconds::At(value) => pair(value),
-        UnixSeconds::Refused(number) => single(number),
+        UnixSeconds::At(value) => of_numbers(2, 0, value),
+        UnixSeconds::Refused(number) => of_numbers(1, number, 0),
     }
 }
 
@@ -57,9 +53,9 @@ pub fn of_record(made: Made) -> Reply {
 
 fn refused(made: Made) -> Reply {
     let Made::Refused(number) = made else {
-        return single(0);
+        return of_numbers(1, 0, 0);
     };
-    single(number)
+    of_numbers(1, number, 0)
 }
 
 // Puts a reply's line at the end of a buffer and answers where it begins. A space stands before each

@@ -12,21 +12,11 @@ pub struct Standing {
     minus: bool,
 }
 
-// At the start of a line.
-pub fn start() -> Standing {
+// Behind no word of a line, or behind one that can't be read.
+pub fn unnamed(words: usize) -> Standing {
     Standing {
         name: 0,
-        words: 0,
-        digits: 0,
-        minus: false,
-    }
-}
-
-// Behind a word that can't be read.
-fn lost() -> Standing {
-    Standing {
-        name: 0,
-        words: 1,
+        words,
         digits: 0,
         minus: false,
     }
@@ -36,7 +26,9 @@ impl Standing {
     // Behind a byte of a word.
     pub fn with_byte(mut self, byte: u8) -> Standing {
         if self.words == 0 {
-            self.name = numbers::with_letter(self.name, byte);
+            if self.name < 0x100_0000_0000_0000 {
+                self.name = self.name * 256 + byte as u64;
+            }
             return self;
         }
         if byte == b'-' {
@@ -51,10 +43,10 @@ impl Standing {
     pub fn stored(self, arguments: &mut [u64; 13]) -> Standing {
         let words = self.words;
         if words > 12 {
-            return lost();
+            return unnamed(1);
         }
         if self.digits > numbers::largest(self.minus) {
-            return lost();
+            return unnamed(1);
         }
         arguments[words] = numbers::raised(self.digits, self.minus);
         Standing {

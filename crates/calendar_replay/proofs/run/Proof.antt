@@ -5,7 +5,7 @@ use Rattle.calendar_replay.proofs.run.Statement.{statement}
 use Rattle.calendar_replay.proofs.run.Tie as tie
 use Rattle.calendar_replay.proofs.run.Reads as reads
 use Rattle.calendar_replay.proofs.run.Lts as lts
-use Rattle.calendar_replay.proofs.standing.start.Reads as start-reads
+use Rattle.calendar_replay.proofs.standing.unnamed.Reads as unnamed-reads
 use Rattle.calendar_replay.proofs.take_bytes.Reads as take-bytes-reads
 use Rattle.io.proofs.read_full.Reads as read-full-reads
 
@@ -15,8 +15,8 @@ Inv-loop chunk₀ arguments₀ at₀ turns₀ chunk arguments at turns = length 
 abbrev μ-loop : tie.MeasureT-loop
 μ-loop chunk₀ arguments₀ at₀ turns₀ chunk arguments at turns = turns
 
-start-requires : tie.Need-start-requires Inv-loop μ-loop
-start-requires c κs = search needs
+unnamed-requires : tie.Need-unnamed-requires Inv-loop μ-loop
+unnamed-requires c κs = search needs
 
 loop-holds : tie.Need-loop-holds Inv-loop μ-loop
 loop-holds c = search needs
@@ -63,7 +63,7 @@ run-spec =
     (tie.spec
     Inv-loop
     μ-loop
-    start-requires
+    unnamed-requires
     loop-holds
     read-full-requires
     same-length
