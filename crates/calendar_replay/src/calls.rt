@@ -2,7 +2,6 @@
 // crate `extended`.
 use crate::numbers;
 use crate::replies;
-use crate::replies::Reply;
 use extended::DateParts;
 use extended::ExtendedDateTime;
 use extended::Made;
@@ -46,19 +45,22 @@ const IS_LEAP_YEAR: u64 = 0x69735f6c6561705f;
 // The reply to a line without a known name: a number that no answer has.
 const UNKNOWN: u32 = 99;
 
-// The arguments `a` stand from place 1 on.
-pub fn reply_to(name: u64, a: &[u64; 13]) -> Reply {
+// Makes a call and writes its reply. The arguments `a` stand from place 1 on.
+pub fn answer(name: u64, a: &[u64; 13]) {
     if name == IS_LEAP_YEAR {
-        return replies::of_numbers(1, extended::is_leap_year(numbers::u32_at(a, 1)) as u32, 0);
+        replies::print_number(extended::is_leap_year(numbers::u32_at(a, 1)) as u32);
+        return;
     }
     if name == DAYS_IN_MONTH {
         let days = extended::days_in_month(numbers::u32_at(a, 1), numbers::u8_at(a, 2));
-        return replies::of_numbers(1, days as u32, 0);
+        replies::print_number(days as u32);
+        return;
     }
     if name == FROM_UNIX_SECONDS {
-        return replies::of_record(from_unix_seconds(a));
+        replies::print_made(from_unix_seconds(a));
+        return;
     }
-    asked(name, record(a), a)
+    answer_record(name, record(a), a);
 }
 
 fn from_unix_seconds(a: &[u64; 13]) -> Made {
@@ -83,20 +85,24 @@ fn record(a: &[u64; 13]) -> ExtendedDateTime {
 }
 
 // The functions of a record: first those that give a number.
-fn asked(name: u64, r: ExtendedDateTime, a: &[u64; 13]) -> Reply {
+fn answer_record(name: u64, r: ExtendedDateTime, a: &[u64; 13]) {
     if name == UNIX_SECONDS {
-        return replies::of_seconds(r.unix_seconds());
+        replies::print_seconds(r.unix_seconds());
+        return;
     }
     if name == WEEKDAY {
-        return replies::of_days(r.weekday_monday0());
+        replies::print_days(r.weekday_monday0());
+        return;
     }
     if name == WEEKDAY_SUNDAY0 {
-        return replies::of_days(r.weekday_sunday0());
+        replies::print_days(r.weekday_sunday0());
+        return;
     }
     if name == DAY_OF_YEAR {
-        return replies::of_days(r.day_of_year());
+        replies::print_days(r.day_of_year());
+        return;
     }
-    replies::of_record(added(name, r, a))
+    replies::print_made(added(name, r, a));
 }
 
 fn added(name: u64, r: ExtendedDateTime, a: &[u64; 13]) -> Made {

@@ -3,7 +3,7 @@
 // (compare/README.md), so a reply that differs from the Rust's fails the gate.
 //
 // A line is a function's name and its arguments in decimal, with one space before each. A line with
-// a number beyond i64 or without a known name is answered by 99, which no call is.
+// a number beyond i64 or without a known name is answered by 99, which is no call's answer.
 mod calls;
 mod numbers;
 mod replies;
@@ -11,20 +11,7 @@ mod standing;
 
 use standing::Standing;
 
-// Each reply is put together in a buffer from its end to its start, and written at once.
-fn answer(name: u64, arguments: &[u64; 13]) {
-    let mut out = [0u8; 96];
-    let from = replies::put(&mut out, calls::reply_to(name, arguments));
-    write_from(&out, from);
-}
-
-fn write_from(out: &[u8; 96], from: usize) {
-    let bytes: &[u8] = out;
-    if from <= bytes.len() {
-        io::write_all(1, &bytes[from..]);
-    }
-}
-
+// A byte of a word, or the space or newline behind one.
 fn take_byte(byte: u8, at: Standing, arguments: &mut [u64; 13]) -> Standing {
     if byte > b' ' {
         return at.with_byte(byte);
@@ -33,7 +20,8 @@ fn take_byte(byte: u8, at: Standing, arguments: &mut [u64; 13]) -> Standing {
     if byte == b' ' {
         return word;
     }
-    answer(word.name, arguments);
+    calls::answer(word.name, arguments);
+    io::write_all(1, b"\n");
     standing::unnamed(0)
 }
 

@@ -90,37 +90,12 @@ pub fn widened(value: i32) -> i64 {
     value as i64
 }
 
-// Writing, from the end of a buffer to its start: each function puts its text before `place` and
-// answers where it begins.
-
-pub fn put(out: &mut [u8; 96], place: usize, byte: u8) -> usize {
-    if place == 0 {
-        return 0;
-    }
-    if place > 96 {
-        return 0;
-    }
-    out[place - 1] = byte;
-    place - 1
-}
-
-fn put_natural(out: &mut [u8; 96], place: usize, value: u64) -> usize {
-    let mut start = place;
-    let mut rest = value;
-    loop {
-        start = put(out, start, b'0' + (rest % 10) as u8);
-        if rest < 10 {
-            return start;
-        }
-        rest /= 10;
-    }
-}
-
-pub fn put_number(out: &mut [u8; 96], place: usize, value: i64) -> usize {
+pub fn print(value: i64) {
     let raised = integers::bias(value);
     if raised < RAISE {
-        let start = put_natural(out, place, RAISE - raised);
-        return put(out, start, b'-');
+        io::write_all(1, b"-");
+        io::print_decimal(1, RAISE - raised);
+        return;
     }
-    put_natural(out, place, raised - RAISE)
+    io::print_decimal(1, raised - RAISE);
 }

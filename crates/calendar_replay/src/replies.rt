@@ -1,79 +1,53 @@
-// Replies: 0 and what the call gives, or the number of its refusal alone.
+// Replies, written without the line's end: 0 and what the call gives, or the number of its refusal alone.
 use crate::numbers;
 use extended::DayCount;
+use extended::ExtendedDateTime;
 use extended::Made;
 use extended::UnixSeconds;
 
-// The numbers of a reply, as many as are counted.
-pub struct Reply {
-    count: usize,
-    values: [i64; 9],
-}
-
-// The first number, and a second where two are counted.
-pub fn of_numbers(count: usize, first: u32, second: i64) -> Reply {
-    let mut values = [0i64; 9];
-    values[0] = first as i64;
-    values[1] = second;
-    Reply { count, values }
-}
-
-pub fn of_days(days: DayCount) -> Reply {
+pub fn print_days(days: DayCount) {
     match days {
-        DayCount::Days(value) => of_numbers(2, 0, value as i64),
-        DayCount::Refused(number) => of_numbers(1, number, 0),
+        DayCount::Days(value) => print_accepted(value as i64),
+        DayCount::Refused(number) => print_number(number),
     }
 }
 
-pub fn of_seconds(seconds: UnixSeconds) -> Reply {
+pub fn print_seconds(seconds: UnixSeconds) {
     match seconds {
-        UnixSeconds::At(value) => of_numbers(2, 0, value),
-        UnixSeconds::Refused(number) => of_numbers(1, number, 0),
+        UnixSeconds::At(value) => print_accepted(value),
+        UnixSeconds::Refused(number) => print_number(number),
     }
+}
+
+pub fn print_made(made: Made) {
+    match made {
+        Made::Record(record) => print_record(record),
+        Made::Refused(number) => print_number(number),
+    }
+}
+
+fn print_accepted(value: i64) {
+    io::write_all(1, b"0 ");
+    numbers::print(value);
+}
+
+pub fn print_number(number: u32) {
+    io::print_decimal(1, number as u64);
 }
 
 // A record has its eight numbers in order.
-pub fn of_record(made: Made) -> Reply {
-    let Made::Record(r) = made else {
-        return refused(made);
-    };
-    let values = [
-        0,
-        r.year as i64,
-        r.month as i64,
-        r.day as i64,
-        r.hour as i64,
-        r.minute as i64,
-        r.second as i64,
-        r.nanosecond as i64,
-        numbers::widened(r.offset_seconds),
-    ];
-    Reply { count: 9, values }
+fn print_record(r: ExtendedDateTime) {
+    print_accepted(r.year as i64);
+    print_next(r.month as i64);
+    print_next(r.day as i64);
+    print_next(r.hour as i64);
+    print_next(r.minute as i64);
+    print_next(r.second as i64);
+    print_next(r.nanosecond as i64);
+    print_next(numbers::widened(r.offset_seconds));
 }
 
-fn refused(made: Made) -> Reply {
-    let Made::Refused(number) = made else {
-        return of_numbers(1, 0, 0);
-    };
-    of_numbers(1, number, 0)
-}
-
-// Puts a reply's line at the end of a buffer and answers where it begins. A space stands before each
-// number, and the first is left out.
-pub fn put(out: &mut [u8; 96], reply: Reply) -> usize {
-    let values = reply.values;
-    let mut i = reply.count;
-    let mut place = numbers::put(out, 96, b'\n');
-    while i > 0 {
-        i -= 1;
-        if i > 8 {
-            return 96;
-        }
-        let start = numbers::put_number(out, place, values[i]);
-        place = numbers::put(out, start, b' ');
-    }
-    if place < 96 {
-        return place + 1;
-    }
-    96
+fn print_next(value: i64) {
+    io::write_all(1, b" ");
+    numbers::print(value);
 }

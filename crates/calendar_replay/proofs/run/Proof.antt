@@ -1,13 +1,9 @@
+-- `calendar_replay::run` is safe and ends: the turns that are left fall, and the chunk keeps its length. Assumes nothing.
 use mathlib.Core.Path.{_≡_}
 use lib.ListN.{length}
 use borrow.Author.Needs.{needs}
 use Rattle.calendar_replay.proofs.run.Statement.{statement}
 use Rattle.calendar_replay.proofs.run.Tie as tie
-use Rattle.calendar_replay.proofs.run.Reads as reads
-use Rattle.calendar_replay.proofs.run.Lts as lts
-use Rattle.calendar_replay.proofs.standing.unnamed.Reads as unnamed-reads
-use Rattle.calendar_replay.proofs.take_bytes.Reads as take-bytes-reads
-use Rattle.io.proofs.read_full.Reads as read-full-reads
 
 abbrev Inv-loop : tie.InvT-loop
 Inv-loop chunk₀ arguments₀ at₀ turns₀ chunk arguments at turns = length chunk ≡ length chunk₀

@@ -1,11 +1,9 @@
+-- `calendar_replay::take_bytes` is safe and ends: the bytes that are left fall. Assumes nothing.
 use Prim.Native.Nat.{_≤_, _-_}
 use lib.ListN.{length}
 use borrow.Author.Needs.{needs}
 use Rattle.calendar_replay.proofs.take_bytes.Statement.{statement}
 use Rattle.calendar_replay.proofs.take_bytes.Tie as tie
-use Rattle.calendar_replay.proofs.take_bytes.Reads as reads
-use Rattle.calendar_replay.proofs.take_bytes.Lts as lts
-use Rattle.calendar_replay.proofs.take_byte.Reads as take-byte-reads
 
 abbrev Inv-loop : tie.InvT-loop
 Inv-loop bytes arguments₀ at₀ i₀ arguments at i = i ≤ length bytes
