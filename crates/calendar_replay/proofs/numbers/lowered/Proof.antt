@@ -1,0 +1,39 @@
+-- `calendar_replay::numbers::lowered` is safe: -1 less a natural number below 2^63 fits. Assumes nothing.
+use Prim.Native.Nat.{ℕ, zero, suc, _-_, _<_}
+use mathlib.Core.Path.{_≡_, refl, ap}
+use native.Mathlib.Omega.{arith}
+use native.Mathlib.Nat.{zero-add}
+use lib.IntN.{pos, negsuc, _-ℤ_}
+use mir.Syntax.{w64}
+use mir.Val.{SFits}
+use mir.Facts.{toZ-pos}
+use borrow.Author.Needs.{needs}
+use Rattle.calendar_replay.proofs.numbers.lowered.Statement.{statement}
+use Rattle.calendar_replay.proofs.numbers.lowered.Tie as tie
+
+below-zero : (n : ℕ) → negsuc 0 -ℤ pos n ≡ negsuc n
+below-zero zero = refl
+below-zero (suc n) = ap (λ (m : ℕ). negsuc (suc m)) (zero-add n)
+
+cast-result : tie.Need-cast-result
+cast-result c = search needs
+
+returns : tie.Need-returns
+returns c = tt
+
+sub-result : tie.Need-sub-result
+sub-result c = search needs
+
+cast-result-2 : tie.Need-cast-result-2
+cast-result-2 c = search needs
+
+sub-result-2 : tie.Need-sub-result-2
+sub-result-2 c =
+    let n : ℕ = 9223372036854775807 - c .before .args .raised in
+    rw (toZ-pos w64 {n = n} (omega arith), below-zero n) (record { sfits = omega arith })
+
+returns-2 : tie.Need-returns-2
+returns-2 c = tt
+
+pub lowered-spec : {M : Type 1} → statement M
+lowered-spec = tie.close (tie.spec cast-result returns sub-result cast-result-2 sub-result-2 returns-2)
