@@ -9,21 +9,21 @@ use mathlib.Core.Path.{_≡_, refl, sym, ap, _∙_}
 use mathlib.Core.List.{List, [], _∷_, _++_}
 use mathlib.Core.Bool.{Bool, true, false, _&&_, _||_, not}
 use lib.ListN.{length}
-use lib.Dec.{ltb, leb, eqb}
+use lib.Dec.{leb, eqb}
 use lib.IntN.{ℤ, pos, negℤ, _*ℤ_}
 use lib.Signed.{mag}
-use Rattle.primitive.specs.Answer.{Reader, none, if, optional, pure}
+use Rattle.primitive.specs.Answer.{none, if, optional, pure}
 use Rattle.primitive.specs.Text.{bytes, blank, digit, letter, starts, quoted}
-use Rattle.primitive.specs.Primitive.{spaced, decimal, sign, plus-or-minus, same, named}
-use Rattle.primitive.specs.Epoch.{nanoseconds, point-or-comma, fraction, sec-and-nsec}
+use Rattle.primitive.specs.Primitive.{spaced, decimal, sign, same, named}
+use Rattle.primitive.specs.Epoch.{sec-and-nsec}
 use Rattle.primitive.specs.Ordinal.{signed, ordinals, text-ordinal, signed-number, number-ordinal, ordinal}
 use Rattle.primitive.specs.declared.epoch.SecAndNsec.{SecAndNsec}
 use Rattle.primitive.proofs.Walk.{Reads, Fails, Spaces, _⟨_⟩_, _⟨_⟩!_, at-once, first, _or_, _nor_, nothing, verified, behind-space, not-behind-space}
-use Rattle.primitive.proofs.Leaves.{head, all, halves, head-all, Number, Still, tag-read, byte-read, byte-else, word-read, word-else, str-read, number-read, number-else, number-head, digit-still, number-still, seconds-read, seconds-else, word-still, blanks, still, signOf, sign-here, no-sign-here, sign-read, sign-else}
+use Rattle.primitive.proofs.Leaves.{head, all, halves, head-all, Number, tag-read, tag-else, word-read, word-else, number-read, number-else, number-head, digit-still, number-still, seconds-read, seconds-else, word-still, blanks, still, signOf, sign-here, no-sign-here, sign-read, sign-else}
 use Rattle.primitive.proofs.Leaves.{signed as sign-still}
 use Rattle.relative.specs.Relative.{direction, rounded, second-words, second-word, signed-seconds, seconds, days, units, stripped, in-unit, displaced, displacement, parse}
 use Rattle.relative.specs.declared.Relative.{Relative}
-use Rattle.relative.specs.declared.Relative.the-variants.{Years, Months, Days, Hours, Minutes, Seconds}
+use Rattle.relative.specs.declared.Relative.the-variants.{Years, Months, Days, Hours, Minutes}
 
 -- ---- bytes by their kind
 
@@ -67,6 +67,13 @@ unfolding direction bytes letter
 ago-read bs {rest} b =
     first _ (first _ (behind-space (blanks bs b (word-still (bytes "ago") rest (omega arith) refl)) (tag-read (bytes "ago")) ⟨ _ ⟩ nothing))
 
+pub hence-read : (bs : List ℕ) {rest : List ℕ} → all blank bs ≡ true → Reads direction (bs ++ (bytes "hence" ++ rest)) false rest
+unfolding direction bytes letter starts
+hence-read bs {rest} b =
+    first _ (at-once _ (not-behind-space (blanks bs b (word-still (bytes "hence") rest (omega arith) refl)) (tag-else (bytes "ago") refl))
+    or (behind-space (blanks bs b (word-still (bytes "hence") rest (omega arith) refl)) (tag-read (bytes "hence")) ⟨ _ ⟩ nothing))
+
+-- no direction, where neither word stands
 pub none-read : {rest : List ℕ} → Fails (spaced (quoted "ago")) rest → Fails (spaced (quoted "hence")) rest → Reads direction rest false rest
 unfolding direction
 none-read a h = (at-once _ a nor at-once _ h) or nothing

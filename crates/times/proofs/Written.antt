@@ -1,20 +1,20 @@
 -- Each written form of 29.3 is read as exactly its time, up to what stands behind it. A number is any row of digits with a value in
 -- range; what may stand behind the time is a premise. Assumes nothing.
 use native.Mathlib.Omega.{arith}
-use borrow.Author.Tests.{lt-ltb, le-leb, lt-leb, leb-true, ltb-true, ne-eqb}
+use borrow.Author.Tests.{lt-ltb, le-leb, lt-leb, leb-true, ltb-true}
 use Prim.Native.Nat.{ℕ, _+_, _/_, _%_, _<_, _≤_}
-use mathlib.Core.Path.{_≡_, refl, sym, ap, _∙_}
-use mathlib.Core.List.{List, [], _∷_, _++_}
-use mathlib.Core.Bool.{Bool, true, false, _&&_, not}
+use mathlib.Core.Path.{_≡_, refl, sym}
+use mathlib.Core.List.{List, _∷_, _++_}
+use mathlib.Core.Bool.{Bool, true, false}
 use lib.ListN.{length}
-use lib.Dec.{ltb, leb, eqb}
-use Rattle.primitive.specs.Answer.{Reader, matched, none, stop, if, optional, pure, verify, _>>=_}
-use Rattle.primitive.specs.Text.{bytes, blank, digit, letter, starts, quoted}
+use lib.Dec.{ltb, leb}
+use Rattle.primitive.specs.Answer.{Reader, none, if, pure, verify, _>>=_}
+use Rattle.primitive.specs.Text.{bytes, blank, digit, starts}
 use Rattle.primitive.specs.Primitive.{spaced, colon, decimal, parse-uint, dec-uint}
-use Rattle.primitive.specs.Epoch.{nanoseconds, fraction, sec-and-nsec}
+use Rattle.primitive.specs.Epoch.{fraction, sec-and-nsec}
 use Rattle.primitive.specs.declared.epoch.SecAndNsec.{SecAndNsec}
-use Rattle.primitive.proofs.Walk.{Reads, Fails, Spaces, _⟨_⟩_, _⟨_⟩!_, at-once, first, _or_, _nor_, nothing, verified, not-verified, behind-space, not-behind-space}
-use Rattle.primitive.proofs.Leaves.{head, all, Number, Still, plain, tag-read, tag-else, number-read, number-head, number-still, str-read, still, digit-still, signOf, sign-read, sign-else, colon-read, colon-else, fraction-else, seconds-read, fractional-read, pointOf}
+use Rattle.primitive.proofs.Walk.{Reads, Fails, _⟨_⟩_, _⟨_⟩!_, at-once, first, _or_, _nor_, nothing, verified, not-verified, behind-space, not-behind-space}
+use Rattle.primitive.proofs.Leaves.{head, all, Number, plain, tag-read, tag-else, number-read, number-head, number-still, str-read, blanks, still, digit-still, signOf, sign-read, sign-else, colon-read, fraction-else}
 use Rattle.primitive.proofs.Leaves.{signed as sign-still}
 use Rattle.relative.specs.Relative.{parse as relative}
 use Rattle.times.proofs.Chain.{nothing-left}
@@ -25,9 +25,6 @@ use Rattle.times.specs.declared.time.Time.{Time}
 use Rattle.times.specs.declared.time.SecNsec.{SecNsec}
 use Rattle.times.specs.declared.time.TimeOffset.{TimeOffset}
 use Rattle.times.specs.declared.time.TimeOffset.the-variants.{Given, NotGiven}
-
-clash : _≡_ {A = ℕ} 0 1 → ⊥
-clash z = omega arith
 
 -- ---- combinators of this crate
 
@@ -40,10 +37,6 @@ unless-read a b = record {
       let (n, h, k) = b .reads text at e in
       (n, rw (a .fails text at e) h, k);
 }
-
--- a byte that is a digit is no other
-digit-other : (b c : ℕ) → digit b ≡ true → digit c ≡ false → eqb b c ≡ false
-digit-other b c h g = ne-eqb b c (λ z. let w : true ≡ false = sym h ∙ (ap digit z ∙ g) in let y : _≡_ {A = ℕ} 0 1 = cc in clash y)
 
 sign-no-digit : (negative : Bool) → digit (signOf negative) ≡ false
 unfolding digit
@@ -214,15 +207,32 @@ module _ {hs ms : List ℕ} (h : Number hs) (m : Number ms) (hour : decimal hs <
 
 -- ---- 12 hours
 
-pub am-read : {rest : List ℕ} → Reads meridiem (bytes "am" ++ rest) false rest
-unfolding meridiem bytes blank
-am-read = first _ (first _ (first _ (behind-space (still (plain refl)) (tag-read (bytes "am")) ⟨ _ ⟩ nothing)))
+-- the four spellings, behind blanks or none
+module _ (bs : List ℕ) (b : all blank bs ≡ true) {rest : List ℕ} where
+  pub am-read : Reads meridiem (bs ++ (bytes "am" ++ rest)) false rest
+  unfolding meridiem bytes blank
+  am-read = first _ (first _ (first _ (behind-space (blanks bs b (plain refl)) (tag-read (bytes "am")) ⟨ _ ⟩ nothing)))
 
-pub pm-read : {rest : List ℕ} → Reads meridiem (bytes "pm" ++ rest) true rest
-unfolding meridiem bytes blank starts
-pm-read =
-    first _ ((at-once _ (not-behind-space (still (plain refl)) (tag-else (bytes "am") refl)) nor at-once _ (not-behind-space (still (plain refl)) (tag-else (bytes "a.m.") refl)))
-    or (behind-space (still (plain refl)) (tag-read (bytes "pm")) ⟨ _ ⟩ nothing))
+  pub a-m-read : Reads meridiem (bs ++ (bytes "a.m." ++ rest)) false rest
+  unfolding meridiem bytes blank starts
+  a-m-read =
+      first _ (first _ (at-once _ (not-behind-space (blanks bs b (plain refl)) (tag-else (bytes "am") refl))
+      or (behind-space (blanks bs b (plain refl)) (tag-read (bytes "a.m.")) ⟨ _ ⟩ nothing)))
+
+  pub pm-read : Reads meridiem (bs ++ (bytes "pm" ++ rest)) true rest
+  unfolding meridiem bytes blank starts
+  pm-read =
+      first _ ((at-once _ (not-behind-space (blanks bs b (plain refl)) (tag-else (bytes "am") refl))
+      nor at-once _ (not-behind-space (blanks bs b (plain refl)) (tag-else (bytes "a.m.") refl)))
+      or (behind-space (blanks bs b (plain refl)) (tag-read (bytes "pm")) ⟨ _ ⟩ nothing))
+
+  pub p-m-read : Reads meridiem (bs ++ (bytes "p.m." ++ rest)) true rest
+  unfolding meridiem bytes blank starts
+  p-m-read =
+      ((at-once _ (not-behind-space (blanks bs b (plain refl)) (tag-else (bytes "am") refl))
+      nor at-once _ (not-behind-space (blanks bs b (plain refl)) (tag-else (bytes "a.m.") refl)))
+      nor at-once _ (not-behind-space (blanks bs b (plain refl)) (tag-else (bytes "pm") refl)))
+      or (behind-space (blanks bs b (plain refl)) (tag-read (bytes "p.m.")) ⟨ _ ⟩ nothing)
 
 module _ {hs : List ℕ} (h : Number hs) (some-hour : 0 < decimal hs) (hour : decimal hs ≤ 12) {l m′ k rest : List ℕ} (d : digit (head l) ≡ false) {mins : ℕ} (m : Reads optional-minute l mins m′) {v : SecNsec} (s : Reads optional-second m′ v k) {pm : Bool} (a : Reads meridiem k pm rest) where
   pub half-day-item : Reads parse (hs ++ l) (record { hour = decimal hs % 12 + if pm 12 0; minute = mins; second = v .sec; nanosecond = v .nsec; offset = NotGiven }) rest
