@@ -10,7 +10,7 @@ use mathlib.Core.List.{List, [], _∷_, _++_}
 use mathlib.Core.Bool.{Bool, true, false, _&&_, _||_, not}
 use lib.ListN.{length}
 use lib.Dec.{leb, eqb}
-use lib.IntN.{ℤ, pos, negℤ, _*ℤ_}
+use lib.IntN.{ℤ, pos, negsuc, negℤ, _*ℤ_}
 use lib.Signed.{mag}
 use Rattle.primitive.specs.Answer.{none, if, optional, pure}
 use Rattle.primitive.specs.Text.{bytes, blank, digit, letter, starts, quoted}
@@ -315,9 +315,93 @@ not-found w text at (x ∷ xs) h = let t = halves (not (same w (bytes (x .0)))) 
 pub not-named : {A : Type 0} (es : List (String × A)) (w : List ℕ) → lacks es w ≡ true → (m : List ℕ) → Fails (named es w) m
 not-named es w h m = record { fails = λ text at e. not-found w text at es h }
 
--- none of the other units is a word for seconds, and no unit is an ordinal
-other-units : (s : Bool) → lacks second-words (bytes "year" ++ plural s) && (lacks second-words (bytes "month" ++ plural s) && (lacks second-words (bytes "fortnight" ++ plural s) && (lacks second-words (bytes "week" ++ plural s)
-    && (lacks second-words (bytes "day" ++ plural s) && (lacks second-words (bytes "hour" ++ plural s) && (lacks second-words (bytes "minute" ++ plural s) && lacks second-words (bytes "min" ++ plural s))))))) ≡ true
-unfolding lacks second-words same bytes
-other-units true = refl
-other-units false = refl
+-- ---- every unit but seconds, in every form
+
+-- a word for a unit: what it makes of a number n, where n is one that it can be given
+pub record UnitWord (w : List ℕ) (f : ℤ → Relative) (given : ℤ → Type 0) : Type 0 where
+  pub long : 0 < length w
+  pub letters : all letter w ≡ true
+  pub no-seconds : lacks second-words w ≡ true
+  pub no-ordinal : lacks ordinals w ≡ true
+  pub unit : (n : ℤ) → given n → (m : List ℕ) → Reads (in-unit n w) m (f n) m
+
+pub year-word : (s : Bool) → UnitWord (bytes "year" ++ plural s) Years (λ n. Unit {0})
+unfolding lacks second-words ordinals same bytes letter
+year-word true = record { long = omega arith; letters = refl; no-seconds = refl; no-ordinal = refl; unit = λ n g m. year-unit true n m }
+year-word false = record { long = omega arith; letters = refl; no-seconds = refl; no-ordinal = refl; unit = λ n g m. year-unit false n m }
+
+pub month-word : (s : Bool) → UnitWord (bytes "month" ++ plural s) Months (λ n. Unit {0})
+unfolding lacks second-words ordinals same bytes letter
+month-word true = record { long = omega arith; letters = refl; no-seconds = refl; no-ordinal = refl; unit = λ n g m. month-unit true n m }
+month-word false = record { long = omega arith; letters = refl; no-seconds = refl; no-ordinal = refl; unit = λ n g m. month-unit false n m }
+
+pub day-word : (s : Bool) → UnitWord (bytes "day" ++ plural s) Days (λ n. Unit {0})
+unfolding lacks second-words ordinals same bytes letter
+day-word true = record { long = omega arith; letters = refl; no-seconds = refl; no-ordinal = refl; unit = λ n g m. day-unit true n m }
+day-word false = record { long = omega arith; letters = refl; no-seconds = refl; no-ordinal = refl; unit = λ n g m. day-unit false n m }
+
+pub hour-word : (s : Bool) → UnitWord (bytes "hour" ++ plural s) Hours (λ n. Unit {0})
+unfolding lacks second-words ordinals same bytes letter
+hour-word true = record { long = omega arith; letters = refl; no-seconds = refl; no-ordinal = refl; unit = λ n g m. hour-unit true n m }
+hour-word false = record { long = omega arith; letters = refl; no-seconds = refl; no-ordinal = refl; unit = λ n g m. hour-unit false n m }
+
+pub minute-word : (s : Bool) → UnitWord (bytes "minute" ++ plural s) Minutes (λ n. Unit {0})
+unfolding lacks second-words ordinals same bytes letter
+minute-word true = record { long = omega arith; letters = refl; no-seconds = refl; no-ordinal = refl; unit = λ n g m. minute-unit true n m }
+minute-word false = record { long = omega arith; letters = refl; no-seconds = refl; no-ordinal = refl; unit = λ n g m. minute-unit false n m }
+
+pub min-word : (s : Bool) → UnitWord (bytes "min" ++ plural s) Minutes (λ n. Unit {0})
+unfolding lacks second-words ordinals same bytes letter
+min-word true = record { long = omega arith; letters = refl; no-seconds = refl; no-ordinal = refl; unit = λ n g m. min-unit true n m }
+min-word false = record { long = omega arith; letters = refl; no-seconds = refl; no-ordinal = refl; unit = λ n g m. min-unit false n m }
+
+pub week-word : (s : Bool) → UnitWord (bytes "week" ++ plural s) (λ n. Days (n *ℤ pos 7)) (λ n. mag (n *ℤ pos 7) < 2 ^ 31)
+unfolding lacks second-words ordinals same bytes letter
+week-word true = record { long = omega arith; letters = refl; no-seconds = refl; no-ordinal = refl; unit = week-unit true }
+week-word false = record { long = omega arith; letters = refl; no-seconds = refl; no-ordinal = refl; unit = week-unit false }
+
+pub fortnight-word : (s : Bool) → UnitWord (bytes "fortnight" ++ plural s) (λ n. Days (n *ℤ pos 14)) (λ n. mag (n *ℤ pos 14) < 2 ^ 31)
+unfolding lacks second-words ordinals same bytes letter
+fortnight-word true = record { long = omega arith; letters = refl; no-seconds = refl; no-ordinal = refl; unit = fortnight-unit true }
+fortnight-word false = record { long = omega arith; letters = refl; no-seconds = refl; no-ordinal = refl; unit = fortnight-unit false }
+
+-- the number with its direction
+abbrev pub turned : Bool → ℤ → ℤ
+turned ago n = if ago (negℤ n) n
+
+-- `3 years`, `-3 years ago`, `year`, `last year ago`: blanks, a number, blanks, a unit, a direction
+module _ {w : List ℕ} {f : ℤ → Relative} {given : ℤ → Type 0} (u : UnitWord w f given) {l rest : List ℕ} {ago : Bool} (d : Reads direction l ago rest) (ends : letter (head l) ≡ false) (bs : List ℕ) (b : all blank bs ≡ true) where
+  the-word : Word w l
+  the-word = record { long = u .long; letters = u .letters; ends = ends }
+
+  module _ (as′ : List ℕ) (a : all blank as′ ≡ true) where
+    pub unsigned-form : {ds : List ℕ} → Number ds → decimal ds ≤ 2147483647 → given (turned ago (pos (decimal ds))) → Reads parse (as′ ++ (ds ++ (bs ++ (w ++ l)))) (f (turned ago (pos (decimal ds)))) rest
+    unsigned-form n small g = unsigned-item the-word d bs b (not-named second-words w (u .no-seconds)) as′ a n small (u .unit _ g)
+
+    pub signed-form : {ds : List ℕ} → Number ds → decimal ds ≤ 2147483647 → (negative : Bool) → given (turned ago (signed negative (decimal ds))) → Reads parse (as′ ++ (signOf negative ∷ (ds ++ (bs ++ (w ++ l))))) (f (turned ago (signed negative (decimal ds)))) rest
+    signed-form n small negative g = signed-item the-word d bs b (not-named second-words w (u .no-seconds)) as′ a n small negative (u .unit _ g)
+
+    pub ordinal-form : (o : List ℕ) (n : ℤ) → Word o (bs ++ (w ++ l)) → ((m : List ℕ) → Reads (named ordinals o) m n m) → given (turned ago n) → Reads parse (as′ ++ (o ++ (bs ++ (w ++ l)))) (f (turned ago n)) rest
+    ordinal-form o n k t g = ordinal-item the-word d bs b as′ a o n k t (u .unit _ g)
+
+  pub bare-form : given (turned ago (pos 1)) → Reads parse (bs ++ (w ++ l)) (f (turned ago (pos 1))) rest
+  bare-form g = bare-item the-word d bs b (not-named ordinals w (u .no-ordinal)) (u .unit _ g)
+
+-- 29.1: the ordinal words
+pub ordinal-words : (m : List ℕ)
+    → Reads (named ordinals (bytes "last")) m (negsuc 0) m
+    × Reads (named ordinals (bytes "this")) m (pos 0) m
+    × Reads (named ordinals (bytes "next")) m (pos 1) m
+    × Reads (named ordinals (bytes "first")) m (pos 1) m
+    × Reads (named ordinals (bytes "third")) m (pos 3) m
+    × Reads (named ordinals (bytes "fourth")) m (pos 4) m
+    × Reads (named ordinals (bytes "fifth")) m (pos 5) m
+    × Reads (named ordinals (bytes "sixth")) m (pos 6) m
+    × Reads (named ordinals (bytes "seventh")) m (pos 7) m
+    × Reads (named ordinals (bytes "eighth")) m (pos 8) m
+    × Reads (named ordinals (bytes "ninth")) m (pos 9) m
+    × Reads (named ordinals (bytes "tenth")) m (pos 10) m
+    × Reads (named ordinals (bytes "eleventh")) m (pos 11) m
+    × Reads (named ordinals (bytes "twelfth")) m (pos 12) m
+unfolding ordinals named same bytes
+ordinal-words m = (record { reads = λ text at e. (at, refl, e) }, record { reads = λ text at e. (at, refl, e) }, record { reads = λ text at e. (at, refl, e) }, record { reads = λ text at e. (at, refl, e) }, record { reads = λ text at e. (at, refl, e) }, record { reads = λ text at e. (at, refl, e) }, record { reads = λ text at e. (at, refl, e) }, record { reads = λ text at e. (at, refl, e) }, record { reads = λ text at e. (at, refl, e) }, record { reads = λ text at e. (at, refl, e) }, record { reads = λ text at e. (at, refl, e) }, record { reads = λ text at e. (at, refl, e) }, record { reads = λ text at e. (at, refl, e) }, record { reads = λ text at e. (at, refl, e) })
