@@ -10,9 +10,11 @@ use lib.ListN.{length, getD, take, drop, length-drop}
 use lib.Seq.{getD-drop, drop-drop, drop-append-seam, take-append-seam, slice}
 use lib.Dec.{ltb, leb, eqb}
 use borrow.Author.Tests.{lt-ltb, le-ltb, le-leb, lt-leb, eq-eqb, ne-eqb, leb-true, not-true}
-use Rattle.primitive.specs.Answer.{Answer, matched, none, if, _>>_}
+use Rattle.primitive.specs.Answer.{Answer, matched, none, if, _>>_, pure}
 use Rattle.primitive.specs.Text.{blank, digit, letter, run, past, some, starts, tag}
 use Rattle.primitive.specs.Primitive.{multispace0, comment, no-digit, sign, ignored-hyphen-or-plus, ignored, behind, skip, space, spaced, decimal, parse-uint, dec-uint-str, dec-uint, colon, plus-or-minus, alpha1}
+use Rattle.primitive.specs.Epoch.{nanoseconds, point-or-comma, fraction, sec-and-nsec}
+use Rattle.primitive.specs.declared.epoch.SecAndNsec.{SecAndNsec}
 use Rattle.primitive.proofs.Limits.{slice-take}
 use Rattle.primitive.proofs.Walk.{Reads, Fails, Spaces, _⟨_⟩_, _⟨_⟩!_, at-once, first, _or_, _nor_, nothing, verified, behind-space, not-behind-space}
 
@@ -143,6 +145,9 @@ quiet-letter b h =
     let l = leb-true 97 b (t .0) in
     rw (ne-eqb b 32 (λ z. omega arith), le-leb 9 b (omega arith), lt-leb b 13 (omega arith), ne-eqb b 40 (λ z. omega arith), ne-eqb b 43 (λ z. omega arith), ne-eqb b 45 (λ z. omega arith))
 
+pub digit-still : {l : List ℕ} → digit (head l) ≡ true → Still l
+digit-still {l} h = plain (quiet-digit (head l) h)
+
 pub number-still : {ds : List ℕ} (l : List ℕ) → Number ds → Still (ds ++ l)
 number-still {ds} l n = plain (quiet-digit (head (ds ++ l)) (number-head l n))
 
@@ -243,3 +248,41 @@ colon-read s = behind-space s (byte-read 58)
 pub colon-else : {l m : List ℕ} → Spaces l m → eqb (head m) 58 ≡ false → Fails colon l
 unfolding colon
 colon-else s h = not-behind-space s (byte-else 58 h)
+
+-- ---- seconds
+
+-- `.` is 46 and `,` is 44
+abbrev pub pointOf : Bool → ℕ
+pointOf true = 44
+pointOf false = 46
+
+point-read : (comma : Bool) {l : List ℕ} → Reads point-or-comma (pointOf comma ∷ l) tt l
+unfolding point-or-comma
+point-read true = byte-else 46 refl or byte-read 44
+point-read false = first _ (byte-read 46)
+
+-- seconds with a fraction, and without one
+pub fraction-read : (comma : Bool) {fs rest : List ℕ} → Number fs → digit (head rest) ≡ false → Reads fraction (pointOf comma ∷ (fs ++ rest)) (nanoseconds fs) rest
+unfolding fraction
+fraction-read comma n h = point-read comma ⟨ _ ⟩ str-read n h ⟨ (λ ds. pure (nanoseconds ds)) ⟩ nothing
+
+pub fraction-else : {l : List ℕ} → eqb (head l) 46 ≡ false → eqb (head l) 44 ≡ false → Fails fraction l
+unfolding fraction point-or-comma
+fraction-else g h = at-once _ (byte-else 46 g nor byte-else 44 h)
+
+pub seconds-read : {ds rest : List ℕ} → Number ds → decimal ds ≤ 18446744073709551615 → digit (head rest) ≡ false → eqb (head rest) 46 ≡ false → eqb (head rest) 44 ≡ false → Reads sec-and-nsec (ds ++ rest) (record { sec = decimal ds; nsec = 0 }) rest
+unfolding sec-and-nsec
+seconds-read {ds} n m d g h = number-read n m d ⟨ _ ⟩ (fraction-else g h or nothing) ⟨ (λ nsec. pure (record { sec = decimal ds; nsec = nsec })) ⟩ nothing
+
+pub point-no-digit : (comma : Bool) → digit (pointOf comma) ≡ false
+unfolding digit
+point-no-digit true = refl
+point-no-digit false = refl
+
+pub fractional-read : (comma : Bool) {ds fs rest : List ℕ} → Number ds → decimal ds ≤ 18446744073709551615 → Number fs → digit (head rest) ≡ false → Reads sec-and-nsec (ds ++ (pointOf comma ∷ (fs ++ rest))) (record { sec = decimal ds; nsec = nanoseconds fs }) rest
+unfolding sec-and-nsec
+fractional-read comma {ds} n m f h = number-read n m (point-no-digit comma) ⟨ _ ⟩ first _ (fraction-read comma f h) ⟨ (λ nsec. pure (record { sec = decimal ds; nsec = nsec })) ⟩ nothing
+
+pub seconds-else : {l : List ℕ} → digit (head l) ≡ false → Fails sec-and-nsec l
+unfolding sec-and-nsec
+seconds-else h = at-once _ (number-else 18446744073709551615 h)

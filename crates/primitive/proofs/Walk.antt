@@ -1,11 +1,13 @@
 -- How a reader goes along a text that is known from a place on: no places, only what is left to read. Assumes nothing.
-use Prim.Native.Nat.{ℕ}
-use mathlib.Core.Path.{_≡_, refl}
+use native.Mathlib.Omega.{arith}
+use Prim.Native.Nat.{ℕ, _-_, _≤_}
+use mathlib.Core.Path.{_≡_, refl, ap}
 use mathlib.Core.List.{List}
 use mathlib.Core.Bool.{Bool, true, false}
-use lib.ListN.{drop}
+use lib.ListN.{length, drop, length-drop}
 use Rattle.primitive.specs.Answer.{Reader, matched, none, _>>=_, _>>_, _<|>_, pure, value, optional, verify}
 use Rattle.primitive.specs.Primitive.{space, spaced}
+use Rattle.primitive.proofs.Forward.{Forward}
 
 -- Where the text goes on as l, p matches with the value v, and behind the match the text goes on as m.
 pub record Reads {A : Type 0} (p : Reader A) (l : List ℕ) (v : A) (m : List ℕ) : Type 0 where
@@ -76,6 +78,17 @@ module _ {A : Type 0} {p : Reader A} {l : List ℕ} where
 
   pub not-behind-space : {m : List ℕ} → Spaces l m → Fails p m → Fails (spaced p) l
   not-behind-space a b = record { fails = λ text at e. b .fails text (space text at) (a .spaces text at e) }
+
+-- where such a match ends: behind all that is not left
+pub place-behind : {A : Type 0} {p : Reader A} {l m : List ℕ} {v : A} → Forward p → Reads p l v m → (text : List ℕ) (at : ℕ) → at ≤ length text → drop at text ≡ l → p text at ≡ matched v (length text - length m)
+place-behind {m = m} {v = v} f r text at h e =
+    let (n, g, k) = r .reads text at e in
+    let w = f text at v n g in
+    let y = w .1 h in
+    let z = ap length k in
+    let u = length-drop n text in
+    let q : n ≡ length text - length m = omega arith in
+    rw (← q) g
 
 -- that a reader fails at its first step, in each of its alternatives: `search (misses, ..)` with the laws of the first steps
 pub ruleset misses = (at-once, _nor_, not-behind-space)

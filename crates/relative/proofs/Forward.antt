@@ -1,14 +1,14 @@
 -- Where a relative item ends: never before the place asked, and within the text where that place is. Assumes nothing.
+use mathlib.Core.Path.{_≡_}
 use native.Mathlib.Omega.{arith}
 use Prim.Native.Nat.{ℕ, _^_}
 use Prim.Native.String.{String}
-use mathlib.Core.Path.{_≡_}
 use mathlib.Core.List.{List, [], _∷_}
 use mathlib.Core.Bool.{Bool, true, false, not}
 use lib.Dec.{ltb}
 use lib.IntN.{ℤ, pos, negℤ, _*ℤ_}
 use lib.Signed.{mag}
-use Rattle.primitive.specs.Answer.{Answer, Reader, matched, if, andThen, _>>=_}
+use Rattle.primitive.specs.Answer.{Reader, matched, if, andThen, _>>=_}
 use Rattle.primitive.specs.Text.{bytes}
 use Rattle.primitive.specs.Primitive.{named, same}
 use Rattle.primitive.proofs.Forward.{Ends, Forward, then-forward, next-forward, or-forward, pure-forward, verify-forward, optional-forward, value-forward, spaced-forward, tag-forward, named-forward, alpha1-forward, plus-or-minus-forward, sec-and-nsec-forward, ordinal-forward}

@@ -2,17 +2,16 @@
 use native.Mathlib.Omega.{arith}
 use borrow.Author.Tests.{eq-eqb, ne-eqb, lt-ltb, le-ltb}
 use Prim.Native.Nat.{ℕ, suc, _+_, _-_, _<_, _≤_, _^_, zero-le}
-use native.Mathlib.Numerals.{add-one}
 use mathlib.Core.Path.{_≡_, refl, sym, ap, _∙_}
 use mathlib.Core.List.{List, [], _∷_, _++_}
-use mathlib.Core.Bool.{Bool, true, false, not}
-use lib.ListN.{length, getD, take, drop, length-take}
+use mathlib.Core.Bool.{Bool, true, false}
+use lib.ListN.{length, getD, take, length-take}
 use lib.Seq.{slice, take-suc, drop-append-le}
 use lib.Dec.{eqb, ltb}
 use lib.IntN.{ℤ}
-use Rattle.primitive.specs.Answer.{Answer, Reader, matched, none, if, andThen}
-use Rattle.primitive.specs.Text.{lower, lowered, bytes}
-use Rattle.primitive.specs.Primitive.{named, words, index}
+use Rattle.primitive.specs.Answer.{Answer, Reader, matched, none, if}
+use Rattle.primitive.specs.Text.{lower, lowered}
+use Rattle.primitive.specs.Primitive.{index}
 use Rattle.primitive.specs.declared.epoch.SecAndNsec.{SecAndNsec}
 use Rattle.primitive.proofs.Lowered.{length-lowered, getD-lowered}
 use Rattle.primitive.proofs.Tables.{keys, values, named-in, named-out}

@@ -41,7 +41,7 @@ use Rattle.times.specs.declared.time.FoundSecond.{FoundSecond}
 first-stop : {A : Type 0} (p q : Answer A) → p ≡ stop → stop ≡ orElse p q
 first-stop p q e = rw e
 
-nothing-left : {A B : Type 0} (a : Answer A) → _≡_ {A = Answer B} none (without a none)
+pub nothing-left : {A B : Type 0} (a : Answer A) → _≡_ {A = Answer B} none (without a none)
 nothing-left (matched v n) = refl
 nothing-left none = refl
 nothing-left stop = refl

@@ -1,7 +1,7 @@
 -- Where an offset and a time end: never before the place asked, and within the text where that place is. Assumes nothing.
+use mathlib.Core.Path.{_≡_}
 use native.Mathlib.Omega.{arith}
 use Prim.Native.Nat.{ℕ, _+_, _/_, _%_}
-use mathlib.Core.Path.{_≡_}
 use mathlib.Core.List.{List}
 use mathlib.Core.Bool.{Bool, true, false}
 use lib.ListN.{length}
@@ -11,7 +11,6 @@ use Rattle.primitive.proofs.Forward.{Ends, Forward, if-ends, then-forward, next
 use Rattle.times.specs.Offset.{certain, without, unless, inRange, offset-of, timezone-offset-colon, digits-offset, timezone-offset-colonless, any-offset, signed-fraction, time-zone-correction, timezone-offset}
 use Rattle.relative.specs.Relative.{parse as relative}
 use Rattle.times.specs.Time.{below, hour24, hour12, minute, second, optional-second, optional-minute, optional-correction, hour-offset, clock, iso, meridiem, am-pm-time, parse}
-use Rattle.times.specs.declared.offset.Offset.{Offset}
 use Rattle.times.specs.declared.time.TimeOffset.the-variants.{Given, NotGiven}
 
 -- ---- combinators

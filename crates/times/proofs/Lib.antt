@@ -3,4 +3,5 @@ pub mod Signed
 pub mod Offsets
 pub mod Times
 pub mod Forward
+pub mod Written
 pub mod Examples

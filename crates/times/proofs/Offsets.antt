@@ -1,14 +1,14 @@
 -- The laws of an offset's hours and minutes: their range, and what digits say. Assumes nothing.
 use native.Mathlib.Omega.{arith}
-use borrow.Author.Tests.{lt-ltb, le-ltb, le-leb, lt-leb, leb-true, eq-eqb, ne-eqb}
-use Prim.Native.Nat.{ℕ, zero, suc, _+_, _-_, _/_, _%_, _<_, _≤_}
-use mathlib.Core.Path.{_≡_, refl, sym, ap, _∙_}
+use borrow.Author.Tests.{lt-ltb, le-leb, lt-leb, leb-true}
+use Prim.Native.Nat.{ℕ, _-_, _/_, _%_, _<_, _≤_}
+use mathlib.Core.Path.{_≡_, refl, _∙_}
 use mathlib.Core.List.{List, []}
 use mathlib.Core.Bool.{Bool, true, false, _&&_, _||_}
 use lib.ListN.{length}
 use lib.Seq.{slice}
 use lib.Dec.{ltb, leb, eqb}
-use Rattle.primitive.specs.Answer.{Answer, matched, none, stop, if}
+use Rattle.primitive.specs.Answer.{Answer, matched, stop, if}
 use Rattle.primitive.specs.Text.{lowered}
 use Rattle.primitive.specs.Primitive.{dec-uint-str, sliceAnswer}
 use Rattle.primitive.specs.declared.ReadPlace.{ReadPlace}

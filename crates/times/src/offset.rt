@@ -161,13 +161,13 @@ fn signed_fraction(s: &[u8], at: usize) -> ReadU32
 
 // An offset, unless a relative item stands there: `+8 years` is no offset. The relative item is looked for only where there is an
 // offset, or one out of range.
-pub fn timezone_offset(s: &[u8], at: usize) -> ReadOffset
-    ensures { λ r. ⌜ offsetAnswer r ≡ timezone-offset (lowered (now (s .entry))) at ⌝ }
+pub fn timezone_offset(s: &[u8], start: usize) -> ReadOffset
+    ensures { λ r. ⌜ offsetAnswer r ≡ timezone-offset (lowered (now (s .entry))) start ⌝ }
 {
-    match any_offset(s, at) {
-        ReadOffset::Match(v, next) => unless_relative(s, at, ReadOffset::Match(v, next)),
+    match any_offset(s, start) {
+        ReadOffset::Match(v, next) => unless_relative(s, start, ReadOffset::Match(v, next)),
         ReadOffset::NoMatch => ReadOffset::NoMatch,
-        ReadOffset::Stop => unless_relative(s, at, ReadOffset::Stop),
+        ReadOffset::Stop => unless_relative(s, start, ReadOffset::Stop),
     }
 }
 
