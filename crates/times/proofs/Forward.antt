@@ -24,7 +24,7 @@ none-ends text at v n e = let z : _≡_ {A = ℕ} 0 1 = cc in (omega arith, λ h
 certain-forward : {A : Type 0} (t : Bool) (v : A) → Forward (certain t v)
 certain-forward t v text at = if-ends text at t _ _ (pure-forward v text at) (stop-ends text at)
 
-unless-forward : {A B : Type 0} (p : Reader A) (q : Reader B) → Forward q → Forward (unless p q)
+pub unless-forward : {A B : Type 0} (p : Reader A) (q : Reader B) → Forward q → Forward (unless p q)
 unless-forward {A = A} p q h text at = go (p text at)
   where
     go : (a : Answer A) → Ends text at (without a (q text at))

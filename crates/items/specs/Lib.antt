@@ -1,0 +1,3 @@
+-- The definitions of the crate `items`, in reading order.
+pub mod Combined
+pub mod Items

@@ -1,0 +1,200 @@
+// The items of a text, as in items/mod.rs: dates with a time, dates, times and relative items, read one after the other to the end of the
+// text. The other kinds of items come by packet only; their types stand here too.
+
+pub mod combined;
+
+use crate::combined::DateTime;
+use crate::combined::ReadDateTime;
+use dates::date::Date;
+use dates::date::ReadDate;
+use relative::ReadRelative;
+use relative::Relative;
+use times::offset::Offset;
+use times::time::ReadTime;
+use times::time::Time;
+ghost use mathlib.Core.Path.{_≡_};
+ghost use Rattle.primitive.specs.Text.{lowered};
+ghost use Rattle.dates.specs.Date.{dateAnswer};
+ghost use Rattle.items.specs.Items.{dated-item, iso-date, iso-item, date-item, time-item, relative-item, time-or-relative, other-item, parse-item, parse-items, itemAnswer, itemsAnswer};
+
+pub enum Day {
+    Monday,
+    Tuesday,
+    Wednesday,
+    Thursday,
+    Friday,
+    Saturday,
+    Sunday,
+}
+
+pub struct Weekday {
+    pub offset: i32,
+    pub day: Day,
+}
+
+// Where the digits of a pure number stand in the digits that come with the items.
+pub struct Pure {
+    pub start: u16,
+    pub length: u16,
+}
+
+pub enum Item {
+    DateTime(DateTime),
+    Date(Date),
+    Time(Time),
+    Weekday(Weekday),
+    Relative(Relative),
+    Offset(Offset),
+    // The military letter `j`, local time: a zone without an offset of its own.
+    LocalZone,
+    Pure(Pure),
+}
+
+// An item, and where it ends.
+pub enum ReadItem {
+    Match(Item, usize),
+    NoMatch,
+    Stop,
+}
+
+// One item of many.
+pub struct Slot {
+    pub item: Item,
+}
+
+// The first `count` slots hold the items that were read. `number` is 0 where the text has ended, else that of the refusal.
+pub struct Items {
+    pub slots: [Slot; 64],
+    pub count: usize,
+    pub number: u32,
+    pub place: usize,
+}
+
+// All items of a text, 64 at most: 1 where a 65th is read, 3 where no reader matches and 4 where one stops, these two at the end of the
+// item before.
+pub fn parse_items(s: &[u8]) -> Items
+    ensures { λ r. ⌜ itemsAnswer r ≡ parse-items (lowered (now (s .entry))) ⌝ }
+{
+    let empty = Slot {
+        item: Item::LocalZone,
+    };
+    let mut slots = [empty; 64];
+    let mut count = 0;
+    let mut i = 0;
+    while count <= 64 {
+        if s.len() <= primitive::space(s, i) {
+            return Items {
+                slots,
+                count,
+                number: 0,
+                place: 0,
+            };
+        }
+        let read = parse_item(s, i);
+        match read {
+            ReadItem::Match(item, next) => {
+                if count == 64 {
+                    return Items {
+                        slots,
+                        count,
+                        number: 1,
+                        place: 0,
+                    };
+                }
+                slots[count] = Slot { item };
+                count += 1;
+                i = next;
+            }
+            ReadItem::NoMatch => {
+                return Items {
+                    slots,
+                    count,
+                    number: 3,
+                    place: i,
+                };
+            }
+            ReadItem::Stop => {
+                return Items {
+                    slots,
+                    count,
+                    number: 4,
+                    place: i,
+                };
+            }
+        }
+    }
+    Items {
+        slots,
+        count: 0,
+        number: 1,
+        place: 0,
+    }
+}
+
+pub fn parse_item(s: &[u8], at: usize) -> ReadItem
+    ensures { λ r. ⌜ itemAnswer r ≡ parse-item (lowered (now (s .entry))) at ⌝ }
+{
+    match iso_item(s, at) {
+        ReadItem::Match(v, next) => ReadItem::Match(v, next),
+        ReadItem::NoMatch => other_item(s, at),
+        ReadItem::Stop => ReadItem::Stop,
+    }
+}
+
+// An ISO date, with a time or alone. The date is read once.
+fn iso_item(s: &[u8], at: usize) -> ReadItem
+    ensures { λ r. ⌜ itemAnswer r ≡ iso-item (lowered (now (s .entry))) at ⌝ }
+{
+    let ReadDate::Match(date, next) = iso_date(s, at) else {
+        return ReadItem::NoMatch;
+    };
+    dated_item(s, next, date)
+}
+
+fn iso_date(s: &[u8], at: usize) -> ReadDate
+    ensures { λ r. ⌜ dateAnswer r ≡ iso-date (lowered (now (s .entry))) at ⌝ }
+{
+    if let ReadDate::Match(date, next) = dates::date::iso1(s, at) {
+        return ReadDate::Match(date, next);
+    }
+    dates::date::iso2(s, at)
+}
+
+// A date with the time that follows it, or alone.
+fn dated_item(s: &[u8], at: usize, date: Date) -> ReadItem
+    ensures { λ r. ⌜ itemAnswer r ≡ dated-item date (lowered (now (s .entry))) at ⌝ }
+{
+    match combined::parse_time_after_date(s, at, date) {
+        ReadDateTime::Match(v, next) => ReadItem::Match(Item::DateTime(v), next),
+        ReadDateTime::NoMatch => ReadItem::Match(Item::Date(date), at),
+        ReadDateTime::Stop => ReadItem::Stop,
+    }
+}
+
+fn other_item(s: &[u8], at: usize) -> ReadItem
+    ensures { λ r. ⌜ itemAnswer r ≡ other-item (lowered (now (s .entry))) at ⌝ }
+{
+    let ReadDate::Match(date, next) = dates::date::parse_non_iso(s, at) else {
+        return time_or_relative(s, at);
+    };
+    ReadItem::Match(Item::Date(date), next)
+}
+
+fn time_or_relative(s: &[u8], at: usize) -> ReadItem
+    ensures { λ r. ⌜ itemAnswer r ≡ time-or-relative (lowered (now (s .entry))) at ⌝ }
+{
+    match times::time::parse(s, at) {
+        ReadTime::Match(t, next) => ReadItem::Match(Item::Time(t), next),
+        ReadTime::NoMatch => relative_item(s, at),
+        ReadTime::Stop => ReadItem::Stop,
+    }
+}
+
+fn relative_item(s: &[u8], at: usize) -> ReadItem
+    ensures { λ r. ⌜ itemAnswer r ≡ relative-item (lowered (now (s .entry))) at ⌝ }
+{
+    let ReadRelative::Match(v, next) = relative::parse(s, at) else {
+        return ReadItem::NoMatch;
+    };
+    ReadItem::Match(Item::Relative(v), next)
+}
