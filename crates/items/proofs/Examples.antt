@@ -68,9 +68,64 @@ manual =
 
 pub manual-right : Right manual
 unfolding leap monthDays lower lowered bytes blank digit letter run past some starts tag multispace0 multispace1 closing inside comment no-digit sign ignored-hyphen-or-plus ignored skip space decimal parse-uint dec-uint-str dec-uint colon plus-or-minus alpha1 same named padded nanoseconds point-or-comma fraction sec-and-nsec signed signed-number ordinals text-ordinal number-ordinal ordinal widenedBy year-from-str year-str exists with-year without-year dated end-of-text blank-or-end ended ended-year dated-behind nothing hyphen comma dotted iso1 five-digits iso2 us-date slash-part us-rest us months word-dot literal-month literal1 literal2 literal3 literal parse-non-iso inRange offset-of timezone-offset-colon digits-offset timezone-offset-colonless any-offset signed-fraction time-zone-correction timezone-offset below hour24 hour12 minute second optional-second optional-minute optional-correction hour-offset clock iso meridiem am-pm-time time-parse direction rounded second-words second-word signed-seconds seconds days units stripped in-unit displaced displacement relative-parse separator meridiem-word starts-with-meridiem unless-meridiem iso-alone combined-time parse-time-after-date date-time-item dated-item iso-date iso-item date-item time-item relative-item time-or-relative other-item parse-item manual
-manual-right =
-    (refl, (refl, (refl, (refl, (refl, (refl, (refl, (refl, (refl, (refl, (refl, (refl, (refl, (refl, (refl, (refl, (refl, (refl, (refl,
-    (refl, tt))))))))))))))))))))
+manual-right = (
+  refl,
+  (
+    refl,
+    (
+      refl,
+      (
+        refl,
+        (
+          refl,
+          (
+            refl,
+            (
+              refl,
+              (
+                refl,
+                (
+                  refl,
+                  (
+                    refl,
+                    (
+                      refl,
+                      (
+                        refl,
+                        (
+                          refl,
+                          (
+                            refl,
+                            (
+                              refl,
+                              (
+                                refl,
+                                (
+                                  refl,
+                                  (
+                                    refl,
+                                    (
+                                      refl,
+                                      (refl, tt),
+                                    ),
+                                  ),
+                                ),
+                              ),
+                            ),
+                          ),
+                        ),
+                      ),
+                    ),
+                  ),
+                ),
+              ),
+            ),
+          ),
+        ),
+      ),
+    ),
+  ),
+)
 
 -- A date followed by no time is a date alone; am or pm sends a time to `time::parse`, behind blanks and not behind a comment; what stops
 -- in an ISO time may be a time in 12 hours; hour 0 with am stops the item.

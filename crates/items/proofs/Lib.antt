@@ -1,5 +1,6 @@
--- The laws of the crate `items`.
+-- The laws and theorems of the crate `items`.
 pub mod Chain
 pub mod Loop
 pub mod Forward
+pub mod Theorems
 pub mod Examples

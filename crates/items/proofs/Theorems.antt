@@ -1,0 +1,12 @@
+-- What is proved of a text's items beside the contracts. Assumes nothing.
+use Prim.Native.Nat.{ℕ}
+use mathlib.Core.Path.{_≡_, ap}
+use mathlib.Core.List.{List}
+use Rattle.primitive.specs.Text.{lowered}
+use Rattle.primitive.proofs.Lowered.{lowered-twice}
+use Rattle.items.specs.Items.{parse-items}
+
+-- Upper case changes no answer. `parse_items` answers `parse-items (lowered s)` for the bytes s, so that for their lower case it answers the
+-- left side.
+pub lower-case : (s : List ℕ) → parse-items (lowered (lowered s)) ≡ parse-items (lowered s)
+lower-case s = ap parse-items (lowered-twice s)
