@@ -21,6 +21,13 @@ pub fn bias(x: i64) -> u64
     }
 }
 
+// The same number as an i64.
+pub fn widen(x: i32) -> i64
+    ensures { λ r. ⌜ r ≡ x ⌝ }
+{
+    x as i64
+}
+
 // a + b.
 pub fn checked_add(a: i64, b: i64) -> Checked
     ensures { λ r. ⌜ r ≡ sum a b ⌝ }

@@ -13,6 +13,7 @@ use times::offset::Offset;
 use times::time::ReadTime;
 use times::time::Time;
 ghost use mathlib.Core.Path.{_≡_};
+ghost use Prim.Native.Nat.{_≤_};
 ghost use Rattle.primitive.specs.Text.{lowered};
 ghost use Rattle.dates.specs.Date.{dateAnswer};
 ghost use Rattle.items.specs.Items.{dated-item, iso-date, iso-item, date-item, time-item, relative-item, time-or-relative, other-item, parse-item, parse-items, itemAnswer, itemsAnswer};
@@ -73,7 +74,7 @@ pub struct Items {
 // All items of a text, 64 at most: 1 where a 65th is read, 3 where no reader matches and 4 where one stops, these two at the end of the
 // item before.
 pub fn parse_items(s: &[u8]) -> Items
-    ensures { λ r. ⌜ itemsAnswer r ≡ parse-items (lowered (now (s .entry))) ⌝ }
+    ensures { λ r. ⌜ (itemsAnswer r ≡ parse-items (lowered (now (s .entry)))) × (r .count ≤ 64) ⌝ }
 {
     let empty = Slot {
         item: Item::LocalZone,

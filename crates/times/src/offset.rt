@@ -25,11 +25,10 @@ pub struct Offset {
     pub minutes: u8,
 }
 
-// An offset whose hours are within the accepted range, and the hours by which the clock has to move to make up for it. Each u8 of hours
-// is taken, so that the adjustment is an i16.
+// An offset whose hours are within the accepted range, and the hours by which the clock has to move to make up for it.
 pub struct Normalized {
     pub offset: Offset,
-    pub hour_adjustment: i16,
+    pub hour_adjustment: i64,
 }
 
 // An offset, and where it ends.
@@ -76,12 +75,12 @@ impl Offset {
         if self.negative {
             return Normalized {
                 offset,
-                hour_adjustment: more as i16,
+                hour_adjustment: more as i64,
             };
         }
         Normalized {
             offset,
-            hour_adjustment: 0 - (more as i16),
+            hour_adjustment: 0 - (more as i64),
         }
     }
 

@@ -52,13 +52,13 @@ enum-told : tie.Need-enum-told Inv-loop μ-loop
 enum-told c = search turns
 
 returns-3 : tie.Need-returns-3 Inv-loop μ-loop
-returns-3 c = rest-unread _ _ _ _ _ (c .before .before .before .before .before .before .loop .inv .2) _ (c .before .before .before .before .space .ensures) (c .before .before .before .if1 .left) _ (c .before .before .parse-item .ensures) (c .enum-told .given .1)
+returns-3 c = (rest-unread _ _ _ _ _ (c .before .before .before .before .before .before .loop .inv .2) _ (c .before .before .before .before .space .ensures) (c .before .before .before .if1 .left) _ (c .before .before .parse-item .ensures) (c .enum-told .given .1), c .before .before .before .before .before .before .loop .inv .0)
 
 enum-told-2 : tie.Need-enum-told-2 Inv-loop μ-loop
 enum-told-2 c = search turns
 
 returns-4 : tie.Need-returns-4 Inv-loop μ-loop
-returns-4 c = rest-stopped _ _ _ _ _ (c .before .before .before .before .before .before .loop .inv .2) _ (c .before .before .before .before .space .ensures) (c .before .before .before .if1 .left) _ (c .before .before .parse-item .ensures) (c .enum-told2 .given .1)
+returns-4 c = (rest-stopped _ _ _ _ _ (c .before .before .before .before .before .before .loop .inv .2) _ (c .before .before .before .before .space .ensures) (c .before .before .before .if1 .left) _ (c .before .before .parse-item .ensures) (c .enum-told2 .given .1), c .before .before .before .before .before .before .loop .inv .0)
 
 returns-5 : tie.Need-returns-5 Inv-loop μ-loop
 returns-5 c = absurd (omega arith)

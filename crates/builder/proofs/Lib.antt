@@ -1,0 +1,4 @@
+pub mod Chain
+pub mod Cases
+pub mod Weekdays
+pub mod Loops

@@ -1,0 +1,4 @@
+-- The definitions of the crate `builder`, in reading order.
+pub mod Placed
+pub mod Rules
+pub mod Building

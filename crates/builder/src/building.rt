@@ -1,0 +1,358 @@
+// The building of a record from the base and what the items give, as `build_extended` in items/builder.rs.
+
+use crate::Broken;
+use crate::DateTimeBuilder;
+use crate::GivenDate;
+use crate::GivenTime;
+use crate::GivenWeekday;
+use crate::GivenZone;
+use crate::RelativePlace;
+use dates::date::DateYear;
+use extended::DateParts;
+use extended::DayCount;
+use extended::ExtendedDateTime;
+use extended::Made;
+use extended::TimeParts;
+use integers::Checked;
+use integers::Natural;
+use items::Day;
+use items::Slot;
+use items::Weekday;
+use relative::Relative;
+use times::offset::Normalized;
+use times::time::Time;
+use times::time::TimeOffset;
+ghost use mathlib.Core.Path.{_≡_};
+ghost use lib.ListN.{take};
+ghost use Rattle.primitive.specs.Text.{lowered};
+ghost use Rattle.extended.specs.Extended.{madeOf, accept};
+ghost use Rattle.builder.specs.Placed.{placed};
+ghost use Rattle.builder.specs.Building.{needMidnight, start, yearOr, onDate, onOffset, onTime, dayIndex, ahead, weeks, inI32, weekdaySum, delta, forwarded, onWeekday, addRelative, addRelatives, withZone, onZone, absolute, buildExtended, build, builtOf, daysOf};
+
+// A record, or the number and the place of a refusal.
+pub enum Built {
+    Record(ExtendedDateTime),
+    Refused(u32, usize),
+}
+
+// Days to be added, or the number of a refusal.
+enum Days {
+    Add(i64),
+    Refused(u32),
+}
+
+// All of it: the rules of the first `count` items, and then the building. The digits of pure numbers stand in `digits`.
+pub fn build(slots: [Slot; 64], count: usize, digits: &[u8], base: ExtendedDateTime) -> Built
+    ensures { λ r. ⌜ builtOf r ≡ build (lowered (now (digits .entry))) (take count slots) base ⌝ }
+{
+    let given = crate::gather(slots, count, digits);
+    let broken = given.broken;
+    match broken {
+        Broken::No => {
+            let relatives = given.relatives;
+            placed(build_extended(given.builder, relatives, given.count, base))
+        }
+        Broken::Rule(number, place) => Built::Refused(number, place),
+    }
+}
+
+fn placed(made: Made) -> Built
+    ensures { λ r. ⌜ builtOf r ≡ placed 0 (madeOf made) ⌝ }
+{
+    match made {
+        Made::Record(dt) => Built::Record(dt),
+        Made::Refused(number) => Built::Refused(number, 0),
+    }
+}
+
+// The first `count` relative items count.
+pub fn build_extended(
+    builder: DateTimeBuilder,
+    relatives: [RelativePlace; 64],
+    count: usize,
+    base: ExtendedDateTime,
+) -> Made
+    ensures { λ r. ⌜ madeOf r ≡ buildExtended builder (take count relatives) base ⌝ }
+{
+    let made = absolute(builder, count == 0, base);
+    let Made::Record(dt) = made else {
+        return made;
+    };
+    let made = add_relatives(relatives, count, dt);
+    let Made::Record(dt) = made else {
+        return made;
+    };
+    let zone = builder.zone;
+    on_zone(zone, dt)
+}
+
+// The clock at its start, and then the date, the time and the weekday. `bare`: there is no relative item.
+fn absolute(builder: DateTimeBuilder, bare: bool, base: ExtendedDateTime) -> Made
+    ensures { λ r. ⌜ madeOf r ≡ absolute builder bare base ⌝ }
+{
+    let made = start(builder, bare, base);
+    let Made::Record(dt) = made else {
+        return made;
+    };
+    let date = builder.date;
+    let made = on_date(date, dt);
+    let Made::Record(dt) = made else {
+        return made;
+    };
+    let time = builder.time;
+    let made = on_time(time, dt);
+    let Made::Record(dt) = made else {
+        return made;
+    };
+    let weekday = builder.weekday;
+    on_weekday(weekday, dt)
+}
+
+// A relative item alone keeps the clock of the base.
+fn need_midnight(builder: DateTimeBuilder, bare: bool) -> bool
+    ensures { λ r. ⌜ r ≡ needMidnight builder bare ⌝ }
+{
+    let date = builder.date;
+    if crate::date_given(date) {
+        return true;
+    }
+    let time = builder.time;
+    if crate::time_given(time) {
+        return true;
+    }
+    let weekday = builder.weekday;
+    if crate::weekday_given(weekday) {
+        return true;
+    }
+    let zone = builder.zone;
+    if crate::zone_given(zone) {
+        return bare;
+    }
+    false
+}
+
+fn start(builder: DateTimeBuilder, bare: bool, base: ExtendedDateTime) -> Made
+    ensures { λ r. ⌜ madeOf r ≡ start builder bare base ⌝ }
+{
+    if need_midnight(builder, bare) {
+        return base.with_time(0, 0, 0, 0);
+    }
+    accept(base)
+}
+
+// The base itself, if it is accepted.
+fn accept(base: ExtendedDateTime) -> Made
+    ensures { λ r. ⌜ madeOf r ≡ accept base ⌝ }
+{
+    let date = DateParts {
+        year: base.year,
+        month: base.month,
+        day: base.day,
+    };
+    let time = TimeParts {
+        hour: base.hour,
+        minute: base.minute,
+        second: base.second,
+        nanosecond: base.nanosecond,
+    };
+    ExtendedDateTime::new(date, time, base.offset_seconds)
+}
+
+fn on_date(given: GivenDate, dt: ExtendedDateTime) -> Made
+    ensures { λ r. ⌜ madeOf r ≡ onDate given dt ⌝ }
+{
+    let GivenDate::Given(date) = given else {
+        return Made::Record(dt);
+    };
+    let year = date.year;
+    dt.with_date(year_or(dt.year, year), date.month, date.day)
+}
+
+fn year_or(base: u32, year: DateYear) -> u32
+    ensures { λ r. ⌜ r ≡ yearOr base year ⌝ }
+{
+    match year {
+        DateYear::Given(year) => year,
+        DateYear::Absent => base,
+    }
+}
+
+fn on_time(given: GivenTime, dt: ExtendedDateTime) -> Made
+    ensures { λ r. ⌜ madeOf r ≡ onTime given dt ⌝ }
+{
+    let GivenTime::Given(time) = given else {
+        return Made::Record(dt);
+    };
+    let offset = time.offset;
+    let made = on_offset(offset, dt);
+    let Made::Record(dt) = made else {
+        return made;
+    };
+    dt.with_time(time.hour, time.minute, time.second, time.nanosecond)
+}
+
+fn on_offset(given: TimeOffset, dt: ExtendedDateTime) -> Made
+    ensures { λ r. ⌜ madeOf r ≡ onOffset given dt ⌝ }
+{
+    let TimeOffset::Given(offset) = given else {
+        return Made::Record(dt);
+    };
+    dt.with_offset(offset.total_seconds())
+}
+
+// The clock stands at midnight or at the time that is given.
+fn on_weekday(given: GivenWeekday, dt: ExtendedDateTime) -> Made
+    ensures { λ r. ⌜ madeOf r ≡ onWeekday given dt ⌝ }
+{
+    let GivenWeekday::Given(weekday) = given else {
+        return Made::Record(dt);
+    };
+    match dt.weekday_monday0() {
+        DayCount::Days(today) => forwarded(weekday, today, dt),
+        DayCount::Refused(number) => Made::Refused(number),
+    }
+}
+
+// Forward from today to the weekday.
+fn forwarded(weekday: Weekday, today: u32, dt: ExtendedDateTime) -> Made
+    ensures { λ r. ⌜ madeOf r ≡ forwarded weekday today dt ⌝ }
+{
+    match delta(weekday, today) {
+        Days::Add(days) => dt.checked_add_days(days),
+        Days::Refused(number) => Made::Refused(number),
+    }
+}
+
+// The days from today to the weekday.
+fn delta(weekday: Weekday, today: u32) -> Days
+    ensures { λ r. ⌜ daysOf r ≡ delta weekday today ⌝ }
+{
+    let day = weekday.day;
+    let target = day_index(day);
+    weekday_sum(weeks(weekday.offset, today == target), ahead(today, target))
+}
+
+fn day_index(day: Day) -> u32
+    ensures { λ r. ⌜ r ≡ dayIndex day ⌝ }
+{
+    match day {
+        Day::Monday => 0,
+        Day::Tuesday => 1,
+        Day::Wednesday => 2,
+        Day::Thursday => 3,
+        Day::Friday => 4,
+        Day::Saturday => 5,
+        Day::Sunday => 6,
+    }
+}
+
+// The days from one day of the week to the next that is another, 0 to itself.
+fn ahead(today: u32, target: u32) -> u32
+    ensures { λ r. ⌜ r ≡ ahead today target ⌝ }
+{
+    (target % 7 + 7 - today % 7) % 7
+}
+
+// The weeks to go forward: one less where the day itself lies ahead.
+fn weeks(offset: i32, same: bool) -> i64
+    ensures { λ r. ⌜ r ≡ weeks offset same ⌝ }
+{
+    let weeks = integers::widen(offset);
+    if same {
+        return weeks;
+    }
+    let Natural::At(count) = integers::to_natural(weeks) else {
+        return weeks;
+    };
+    if count == 0 {
+        return weeks;
+    }
+    (count - 1) as i64
+}
+
+// The Rust's sum is one of i32, and overflows; here it is refused.
+fn weekday_sum(weeks: i64, ahead: u32) -> Days
+    ensures { λ r. ⌜ daysOf r ≡ weekdaySum weeks ahead ⌝ }
+{
+    let Checked::Fits(days) = integers::checked_mul(weeks, 7) else {
+        return Days::Refused(18);
+    };
+    if !in_i32(days) {
+        return Days::Refused(18);
+    }
+    let Checked::Fits(days) = integers::checked_add(days, ahead as i64) else {
+        return Days::Refused(18);
+    };
+    if !in_i32(days) {
+        return Days::Refused(18);
+    }
+    Days::Add(days)
+}
+
+fn in_i32(x: i64) -> bool
+    ensures { λ r. ⌜ r ≡ inI32 x ⌝ }
+{
+    if x < -2147483648 {
+        return false;
+    }
+    if x > 2147483647 {
+        return false;
+    }
+    true
+}
+
+fn add_relatives(relatives: [RelativePlace; 64], count: usize, dt: ExtendedDateTime) -> Made
+    ensures { λ r. ⌜ madeOf r ≡ addRelatives (take count relatives) dt ⌝ }
+{
+    let last = crate::at_most_64(count);
+    let mut dt = dt;
+    let mut i = 0;
+    while i < last {
+        let place = relatives[i];
+        let relative = place.relative;
+        match add_relative(relative, dt) {
+            Made::Record(next) => {
+                dt = next;
+            }
+            Made::Refused(number) => {
+                return Made::Refused(number);
+            }
+        }
+        i += 1;
+    }
+    Made::Record(dt)
+}
+
+fn add_relative(relative: Relative, dt: ExtendedDateTime) -> Made
+    ensures { λ r. ⌜ madeOf r ≡ addRelative relative dt ⌝ }
+{
+    match relative {
+        Relative::Years(years) => dt.checked_add_years(years),
+        Relative::Months(months) => dt.checked_add_months(months),
+        Relative::Days(days) => dt.checked_add_days(integers::widen(days)),
+        Relative::Hours(hours) => dt.checked_add_hours(integers::widen(hours)),
+        Relative::Minutes(minutes) => dt.checked_add_minutes(integers::widen(minutes)),
+        Relative::Seconds(seconds, nanos) => dt.checked_add_seconds(seconds, nanos),
+    }
+}
+
+fn on_zone(given: GivenZone, dt: ExtendedDateTime) -> Made
+    ensures { λ r. ⌜ madeOf r ≡ onZone given dt ⌝ }
+{
+    match given {
+        GivenZone::Offset(offset) => with_zone(offset.normalize(), dt),
+        GivenZone::Local => Made::Record(dt),
+        GivenZone::Absent => Made::Record(dt),
+    }
+}
+
+fn with_zone(zone: Normalized, dt: ExtendedDateTime) -> Made
+    ensures { λ r. ⌜ madeOf r ≡ withZone zone dt ⌝ }
+{
+    let made = dt.checked_add_hours(zone.hour_adjustment);
+    let Made::Record(dt) = made else {
+        return made;
+    };
+    let offset = zone.offset;
+    dt.with_offset(offset.total_seconds())
+}
