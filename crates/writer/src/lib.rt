@@ -27,8 +27,8 @@ struct Text {
 
 // Writes the text of a record to the front of the lent place.
 pub fn write(record: ExtendedDateTime, out: &mut [u8]) -> Written
-    ensures answer { λ r. ⌜ r ≡ writtenAnswer (written «record» (length (now (out .entry)))) ⌝ }
-    ensures bytes { λ r. ⌜ now (out .exit) ≡ over (bytesOf (written «record» (length (now (out .entry))))) (now (out .entry)) ⌝ }
+    ensures { λ r. ⌜ r ≡ writtenAnswer (written «record» (length (now (out .entry)))) ⌝ }
+    ensures { λ r. ⌜ now (out .exit) ≡ over (bytesOf (written «record» (length (now (out .entry))))) (now (out .entry)) ⌝ }
 {
     let refusal = record.refusal();
     if refusal > 0 {
