@@ -1,9 +1,9 @@
 -- The digits that are written: how many they are, that each is a digit, and that their decimal value is the number. Assumes nothing.
 use native.Mathlib.Omega.{arith}
-use Prim.Native.Nat.{ℕ, zero, suc, _+_, _-_, _*_, _/_, _%_, _^_, _<_, _≤_, max}
-use native.Mathlib.Nat.{pow-suc, pow-le-pow-right, le-max-right, le-max-left, max-le}
+use Prim.Native.Nat.{ℕ, zero, suc, _+_, _*_, _/_, _%_, _^_, _<_, _≤_, max}
+use native.Mathlib.Nat.{pow-suc, pow-le-pow-right, le-max-right}
 use native.Mathlib.Numerals.{add-one}
-use mathlib.Core.Path.{_≡_, refl, sym, ap, _∙_}
+use mathlib.Core.Path.{_≡_, refl, _∙_}
 use mathlib.Core.List.{List, [], _∷_, _++_, append-assoc}
 use mathlib.Core.Bool.{Bool, true, false, _&&_, cond}
 use lib.ListN.{length, length-append}

@@ -4,4 +4,5 @@ pub mod Signs
 pub mod Filling
 pub mod Texts
 pub mod Writing
+pub mod Theorems
 pub mod Examples

@@ -1,17 +1,22 @@
--- The text of a record: its length, its bytes, and that the parts which the code writes make it up. Assumes nothing.
-use Prim.Native.Nat.{ℕ, _+_, _<_, _≤_, max}
+-- The text of a record: its parts, its length, its bytes, and what its offset tells. Assumes nothing.
+use Prim.Native.Nat.{ℕ, _+_, _*_, _/_, _%_, _<_, _≤_, max}
 use mathlib.Core.Path.{_≡_, refl, _∙_}
 use mathlib.Core.Bool.{Bool, true, false, _&&_}
 use mathlib.Core.List.{List, [], _∷_, _++_, append-assoc}
 use native.Mathlib.Omega.{arith}
 use lib.Dec.{ltb, leb}
+use lib.IntN.{ℤ, pos, negsuc, natAbs}
 use lib.ListN.{length, length-append}
 use borrow.Author.Tests.{lt-ltb, lt-leb, ltb-true, leb-true}
 use Rattle.extended.specs.declared.ExtendedDateTime.{ExtendedDateTime}
+use Rattle.extended.specs.Extended.{testOffset}
+use Rattle.extended.specs.Outcome.{accepted}
+use Rattle.extended.proofs.Counting.{and-left}
+use Rattle.extended.proofs.Outcomes.{check-true}
 use Rattle.extended.proofs.Records.{Accepted}
 use Rattle.primitive.specs.Text.{lower, lowered, digit}
 use Rattle.primitive.proofs.Leaves.{all, halves}
-use Rattle.writer.specs.Writer.{fixed, width, padded, negative, signOf, field, datePart, timePart, offsetPart, textOf, shown, Longer}
+use Rattle.writer.specs.Writer.{fixed, width, padded, signOf, datePart, timePart, offsetPart, textOf, shown, Longer}
 use Rattle.writer.specs.declared.Text.{Text}
 use Rattle.writer.proofs.Digits.{all-join, all-also, fixed-digits, fixed-length, padded-digits, padded-length, year-width}
 
@@ -19,6 +24,11 @@ use Rattle.writer.proofs.Digits.{all-join, all-also, fixed-digits, fixe
 pub parts : (r : ExtendedDateTime) (d t o : Text) → shown d ≡ datePart r [] → Longer d (timePart r []) 19 t → Longer t (offsetPart (r .«offset_seconds») []) 6 o → shown o ≡ textOf r
 unfolding textOf
 parts r d t o e f g = g .text ∙ rw (f .text, e) (simp append-assoc)
+
+-- the text, and what stands behind it
+pub text-then : (r : ExtendedDateTime) (rest : List ℕ) → textOf r ++ rest ≡ datePart r (timePart r (offsetPart (r .«offset_seconds») rest))
+unfolding textOf
+text-then r rest = simp append-assoc
 
 -- ---- the length
 pub text-length : (r : ExtendedDateTime) → length (textOf r) ≡ max 4 (width (r .year)) + 31
@@ -82,3 +92,14 @@ text-ascii r = plain-ascii (textOf r) (text-plain r)
 
 pub text-lowered : (r : ExtendedDateTime) → lowered (textOf r) ≡ textOf r
 text-lowered r = plain-lowered (textOf r) (text-plain r)
+
+-- ---- the offset
+-- "the offset runs from -86400 to 86400"
+pub offset-high : (z : ℤ) → testOffset z ≡ accepted tt → natAbs z ≤ 86400
+unfolding testOffset
+offset-high (pos n) e = let t = check-true (leb n 86400) 17 e in leb-true n 86400 t
+offset-high (negsuc n) e = let t = check-true (leb n 86399 && true) 17 e in omega (arith, leb-true n 86399 (and-left (leb n 86399) true t))
+
+-- hours and minutes of a number of whole minutes
+pub offset-parts : (n : ℕ) → n % 60 ≡ 0 → n / 3600 * 3600 + n % 3600 / 60 * 60 ≡ n
+offset-parts n h = omega arith

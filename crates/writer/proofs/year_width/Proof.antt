@@ -1,6 +1,5 @@
 -- `writer::year_width` meets its contract: each test is one more digit. Assumes nothing.
 use native.Mathlib.Omega.{arith}
-use borrow.Author.Needs.{needs}
 use mathlib.Core.Path.{sym}
 use Rattle.writer.proofs.Digits.{width-four, width-is}
 use Rattle.writer.proofs.year_width.Statement.{statement}
