@@ -154,6 +154,9 @@ padded-number k n =
 pub year-width : (y : ℕ) → y < 10000000000 → (4 ≤ max 4 (width y)) × (max 4 (width y) ≤ 10)
 year-width y h = let w = width-most y 10 (omega arith) h in (omega arith, omega arith)
 
+pub year-length : (y : ℕ) → y ≤ 2147485547 → (4 ≤ length (padded 4 y)) × (length (padded 4 y) ≤ 10)
+year-length y h = rw (padded-length 4 y) (year-width y (omega arith))
+
 -- 4 digits below 10000, and one more for each further power of ten
 pub width-four : (y : ℕ) → y < 10000 → max 4 (width y) ≡ 4
 width-four y h = let w = width-most y 4 (omega arith) h in omega arith
