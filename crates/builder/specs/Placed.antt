@@ -7,10 +7,14 @@ pub data Placed (A : Type 0) : Type 0 where
   fine : A → Placed A
   refusal : ℕ → ℕ → Placed A
 
-infixl 20 _>>=_
+infixl 20 _>>=_ _>>_
 abbrev pub _>>=_ : {A B : Type 0} → Placed A → (A → Placed B) → Placed B
 fine a >>= f = f a
 refusal n at >>= f = refusal n at
+
+abbrev pub _>>_ : {A B : Type 0} → Placed A → Placed B → Placed B
+fine a >> q = q
+refusal n at >> q = refusal n at
 
 -- an answer whose refusal stands at a place
 abbrev pub placed : {A : Type 0} → ℕ → Outcome A → Placed A

@@ -299,10 +299,8 @@ impl ExtendedDateTime {
         DayCount::Days(((self.days() + 5) % 7) as u32)
     }
 
-    // ---- what the functions above share
-
     // The number of the first test that the record fails, 0 where it is accepted.
-    fn refusal(self) -> u32
+    pub fn refusal(self) -> u32
         ensures { λ r. ⌜ r ≡ number (test self) ⌝ }
     {
         let refusal = date_refusal(self.date());
@@ -315,6 +313,8 @@ impl ExtendedDateTime {
         }
         offset_refusal(self.offset_seconds)
     }
+
+    // ---- what the functions above share
 
     fn date(self) -> DateParts
         ensures { λ r. ⌜ r ≡ dateOf self ⌝ }

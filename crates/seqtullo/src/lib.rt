@@ -1,8 +1,10 @@
 // The library as hosts call it: every function takes any arguments, answers by a number of the table
 // of answers, and a refusal carries the blank record, or 0 where a number was wanted.
 ghost use mathlib.Core.Path.{_≡_};
+ghost use lib.ListN.{length};
 ghost use Rattle.extended.specs.Calendar.{monthDays};
 ghost use Rattle.extended.specs.Extended.{madeOf, secondsOf, countOf, make, date, time, accept, fromUnixSeconds, unixSeconds, addDays, addHours, addMinutes, addSeconds, addYears, addMonths, weekdayMonday0, dayOfYear};
+ghost use Rattle.writer.specs.Writer.{written, bytesOf, writtenAnswer, over};
 ghost use Rattle.seqtullo.specs.Hosts.{recordAnswer, momentAnswer, numberAnswer};
 use extended::DateParts;
 use extended::DayCount;
@@ -10,6 +12,7 @@ use extended::ExtendedDateTime;
 use extended::Made;
 use extended::TimeParts;
 use extended::UnixSeconds;
+use writer::Written;
 
 pub type Record = ExtendedDateTime;
 
@@ -178,4 +181,13 @@ pub extern "C" fn seqtullo_days_in_month(year: u32, month: u8) -> u8
     ensures { λ r. ⌜ r ≡ monthDays year month ⌝ }
 {
     extended::days_in_month(year, month)
+}
+
+// Writes the record's text to the front of `out`; a refusal writes nothing.
+#[no_mangle]
+pub extern "C" fn seqtullo_write(record: Record, out: &mut [u8]) -> Written
+    ensures { λ r. ⌜ r ≡ writtenAnswer (written «record» (length (now (out .entry)))) ⌝ }
+    ensures { λ r. ⌜ now (out .exit) ≡ over (bytesOf (written «record» (length (now (out .entry))))) (now (out .entry)) ⌝ }
+{
+    writer::write(record, out)
 }

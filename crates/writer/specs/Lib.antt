@@ -1,0 +1,2 @@
+-- The definitions of the crate `writer`.
+pub mod Writer
