@@ -46,7 +46,10 @@ fn ascii_end(text: &[u8]) -> usize
 fn is_ascii(byte: u8) -> bool
     ensures { λ r. ⌜ r ≡ ascii byte ⌝ }
 {
-    byte < 128
+    if byte < 128 {
+        return true;
+    }
+    false
 }
 
 // The record of a text's items.
@@ -58,5 +61,5 @@ fn build_text(text: &[u8], base: ExtendedDateTime) -> Built
         return Built::Refused(items.number, items.place);
     }
     let slots = items.slots;
-    builder::building::build(slots, items.count, b"", base)
+    builder::building::build(slots, items.count, &text[0..0], base)
 }
