@@ -13,18 +13,18 @@ use Rattle.primitive.specs.Text.{bytes, blank, digit, starts}
 use Rattle.primitive.specs.Primitive.{spaced, colon, decimal, parse-uint, dec-uint}
 use Rattle.primitive.specs.Epoch.{fraction, sec-and-nsec}
 use Rattle.primitive.specs.declared.epoch.SecAndNsec.{SecAndNsec}
-use Rattle.primitive.proofs.Walk.{Reads, Fails, _⟨_⟩_, _⟨_⟩!_, at-once, first, _or_, _nor_, nothing, verified, not-verified, behind-space, not-behind-space}
-use Rattle.primitive.proofs.Leaves.{head, all, Number, plain, tag-read, tag-else, number-read, number-head, number-still, str-read, blanks, still, digit-still, signOf, sign-read, sign-else, colon-read, fraction-else}
-use Rattle.primitive.proofs.Leaves.{signed as sign-still}
+use Rattle.forms.proofs.Walk.{Reads, Fails, _⟨_⟩_, _⟨_⟩!_, at-once, first, _or_, _nor_, nothing, verified, not-verified, behind-space, not-behind-space}
+use Rattle.forms.proofs.Leaves.{head, all, Number, plain, tag-read, tag-else, number-read, number-head, number-still, str-read, blanks, still, digit-still, signOf, sign-read, sign-else, colon-read, fraction-else}
+use Rattle.forms.proofs.Leaves.{signed as sign-still}
 use Rattle.relative.specs.Relative.{parse as relative}
 use Rattle.times.proofs.Chain.{nothing-left}
 use Rattle.times.specs.Offset.{certain, without, unless, inRange, offset-of, timezone-offset-colon, digits-offset, timezone-offset-colonless, any-offset, signed-fraction, time-zone-correction, timezone-offset}
 use Rattle.times.specs.Time.{below, hour24, hour12, minute, second, optional-second, optional-minute, optional-correction, hour-offset, clock, iso, meridiem, am-pm-time, parse}
 use Rattle.times.specs.declared.offset.Offset.{Offset}
 use Rattle.times.specs.declared.time.Time.{Time}
 use Rattle.times.specs.declared.time.SecNsec.{SecNsec}
 use Rattle.times.specs.declared.time.TimeOffset.{TimeOffset}
 use Rattle.times.specs.declared.time.TimeOffset.the-variants.{Given, NotGiven}
 
 -- ---- combinators of this crate
 

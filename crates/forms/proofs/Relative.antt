@@ -18,12 +18,12 @@ use Rattle.primitive.specs.Primitive.{spaced, decimal, sign, same, named}
 use Rattle.primitive.specs.Epoch.{sec-and-nsec}
 use Rattle.primitive.specs.Ordinal.{signed, ordinals, text-ordinal, signed-number, number-ordinal, ordinal}
 use Rattle.primitive.specs.declared.epoch.SecAndNsec.{SecAndNsec}
-use Rattle.primitive.proofs.Walk.{Reads, Fails, Spaces, _⟨_⟩_, _⟨_⟩!_, at-once, first, _or_, _nor_, nothing, verified, behind-space, not-behind-space}
-use Rattle.primitive.proofs.Leaves.{head, all, halves, head-all, Number, tag-read, tag-else, word-read, word-else, number-read, number-else, number-head, digit-still, number-still, seconds-read, seconds-else, word-still, blanks, still, signOf, sign-here, no-sign-here, sign-read, sign-else}
-use Rattle.primitive.proofs.Leaves.{signed as sign-still}
+use Rattle.forms.proofs.Walk.{Reads, Fails, Spaces, _⟨_⟩_, _⟨_⟩!_, at-once, first, _or_, _nor_, nothing, verified, behind-space, not-behind-space}
+use Rattle.forms.proofs.Leaves.{head, all, halves, head-all, Number, tag-read, tag-else, word-read, word-else, number-read, number-else, number-head, digit-still, number-still, seconds-read, seconds-else, word-still, blanks, still, signOf, sign-here, no-sign-here, sign-read, sign-else}
+use Rattle.forms.proofs.Leaves.{signed as sign-still}
 use Rattle.relative.specs.Relative.{direction, rounded, second-words, second-word, signed-seconds, seconds, days, units, stripped, in-unit, displaced, displacement, parse}
 use Rattle.relative.specs.declared.Relative.{Relative}
 use Rattle.relative.specs.declared.Relative.the-variants.{Years, Months, Days, Hours, Minutes}
 
 -- ---- bytes by their kind
 
@@ -249,58 +249,17 @@ abbrev pub plural : Bool → List ℕ
 plural true = bytes "s"
 plural false = []
 
-pub year-unit : (s : Bool) (n : ℤ) (m : List ℕ) → Reads (in-unit n (bytes "year" ++ plural s)) m (Years n) m
-unfolding in-unit units named same stripped bytes
-year-unit true n m = record { reads = λ text at e. (at, refl, e) }
-year-unit false n m = record { reads = λ text at e. (at, refl, e) }
-
-pub month-unit : (s : Bool) (n : ℤ) (m : List ℕ) → Reads (in-unit n (bytes "month" ++ plural s)) m (Months n) m
-unfolding in-unit units named same stripped bytes
-month-unit true n m = record { reads = λ text at e. (at, refl, e) }
-month-unit false n m = record { reads = λ text at e. (at, refl, e) }
-
-pub day-unit : (s : Bool) (n : ℤ) (m : List ℕ) → Reads (in-unit n (bytes "day" ++ plural s)) m (Days n) m
-unfolding in-unit units named same stripped bytes
-day-unit true n m = record { reads = λ text at e. (at, refl, e) }
-day-unit false n m = record { reads = λ text at e. (at, refl, e) }
-
-pub hour-unit : (s : Bool) (n : ℤ) (m : List ℕ) → Reads (in-unit n (bytes "hour" ++ plural s)) m (Hours n) m
-unfolding in-unit units named same stripped bytes
-hour-unit true n m = record { reads = λ text at e. (at, refl, e) }
-hour-unit false n m = record { reads = λ text at e. (at, refl, e) }
-
-pub minute-unit : (s : Bool) (n : ℤ) (m : List ℕ) → Reads (in-unit n (bytes "minute" ++ plural s)) m (Minutes n) m
-unfolding in-unit units named same stripped bytes
-minute-unit true n m = record { reads = λ text at e. (at, refl, e) }
-minute-unit false n m = record { reads = λ text at e. (at, refl, e) }
-
-pub min-unit : (s : Bool) (n : ℤ) (m : List ℕ) → Reads (in-unit n (bytes "min" ++ plural s)) m (Minutes n) m
-unfolding in-unit units named same stripped bytes
-min-unit true n m = record { reads = λ text at e. (at, refl, e) }
-min-unit false n m = record { reads = λ text at e. (at, refl, e) }
-
--- weeks and fortnights, where an i32 holds their days
-pub week-unit : (s : Bool) (n : ℤ) → mag (n *ℤ pos 7) < 2 ^ 31 → (m : List ℕ) → Reads (in-unit n (bytes "week" ++ plural s)) m (Days (n *ℤ pos 7)) m
-unfolding in-unit units named same stripped bytes days
-week-unit true n h m = record { reads = λ text at e. (at, rw (lt-ltb (mag (n *ℤ pos 7)) (2 ^ 31) h), e) }
-week-unit false n h m = record { reads = λ text at e. (at, rw (lt-ltb (mag (n *ℤ pos 7)) (2 ^ 31) h), e) }
-
-pub fortnight-unit : (s : Bool) (n : ℤ) → mag (n *ℤ pos 14) < 2 ^ 31 → (m : List ℕ) → Reads (in-unit n (bytes "fortnight" ++ plural s)) m (Days (n *ℤ pos 14)) m
-unfolding in-unit units named same stripped bytes days
-fortnight-unit true n h m = record { reads = λ text at e. (at, rw (lt-ltb (mag (n *ℤ pos 14)) (2 ^ 31) h), e) }
-fortnight-unit false n h m = record { reads = λ text at e. (at, rw (lt-ltb (mag (n *ℤ pos 14)) (2 ^ 31) h), e) }
-
 -- ---- the words for seconds, and those that are no seconds and no ordinals
 
 pub second-unit : (s : Bool) (m : List ℕ) → Reads (named second-words (bytes "second" ++ plural s)) m tt m
 unfolding second-words named same bytes
-second-unit true m = record { reads = λ text at e. (at, refl, e) }
-second-unit false m = record { reads = λ text at e. (at, refl, e) }
+second-unit true m = nothing
+second-unit false m = nothing
 
 pub sec-unit : (s : Bool) (m : List ℕ) → Reads (named second-words (bytes "sec" ++ plural s)) m tt m
 unfolding second-words named same bytes
-sec-unit true m = record { reads = λ text at e. (at, refl, e) }
-sec-unit false m = record { reads = λ text at e. (at, refl, e) }
+sec-unit true m = nothing
+sec-unit false m = nothing
 
 -- a word that a table does not have: computed for each unit and each table
 unfoldable pub lacks : {A : Type 0} → List (String × A) → List ℕ → Bool
@@ -326,44 +285,45 @@ pub record UnitWord (w : List ℕ) (f : ℤ → Relative) (given : ℤ → Type 
   pub unit : (n : ℤ) → given n → (m : List ℕ) → Reads (in-unit n w) m (f n) m
 
 pub year-word : (s : Bool) → UnitWord (bytes "year" ++ plural s) Years (λ n. Unit {0})
-unfolding lacks second-words ordinals same bytes letter
-year-word true = record { long = omega arith; letters = refl; no-seconds = refl; no-ordinal = refl; unit = λ n g m. year-unit true n m }
-year-word false = record { long = omega arith; letters = refl; no-seconds = refl; no-ordinal = refl; unit = λ n g m. year-unit false n m }
+unfolding lacks second-words ordinals in-unit units named same stripped bytes letter
+year-word true = record { long = omega arith; letters = refl; no-seconds = refl; no-ordinal = refl; unit = λ n g m. nothing }
+year-word false = record { long = omega arith; letters = refl; no-seconds = refl; no-ordinal = refl; unit = λ n g m. nothing }
 
 pub month-word : (s : Bool) → UnitWord (bytes "month" ++ plural s) Months (λ n. Unit {0})
-unfolding lacks second-words ordinals same bytes letter
-month-word true = record { long = omega arith; letters = refl; no-seconds = refl; no-ordinal = refl; unit = λ n g m. month-unit true n m }
-month-word false = record { long = omega arith; letters = refl; no-seconds = refl; no-ordinal = refl; unit = λ n g m. month-unit false n m }
+unfolding lacks second-words ordinals in-unit units named same stripped bytes letter
+month-word true = record { long = omega arith; letters = refl; no-seconds = refl; no-ordinal = refl; unit = λ n g m. nothing }
+month-word false = record { long = omega arith; letters = refl; no-seconds = refl; no-ordinal = refl; unit = λ n g m. nothing }
 
 pub day-word : (s : Bool) → UnitWord (bytes "day" ++ plural s) Days (λ n. Unit {0})
-unfolding lacks second-words ordinals same bytes letter
-day-word true = record { long = omega arith; letters = refl; no-seconds = refl; no-ordinal = refl; unit = λ n g m. day-unit true n m }
-day-word false = record { long = omega arith; letters = refl; no-seconds = refl; no-ordinal = refl; unit = λ n g m. day-unit false n m }
+unfolding lacks second-words ordinals in-unit units named same stripped bytes letter
+day-word true = record { long = omega arith; letters = refl; no-seconds = refl; no-ordinal = refl; unit = λ n g m. nothing }
+day-word false = record { long = omega arith; letters = refl; no-seconds = refl; no-ordinal = refl; unit = λ n g m. nothing }
 
 pub hour-word : (s : Bool) → UnitWord (bytes "hour" ++ plural s) Hours (λ n. Unit {0})
-unfolding lacks second-words ordinals same bytes letter
-hour-word true = record { long = omega arith; letters = refl; no-seconds = refl; no-ordinal = refl; unit = λ n g m. hour-unit true n m }
-hour-word false = record { long = omega arith; letters = refl; no-seconds = refl; no-ordinal = refl; unit = λ n g m. hour-unit false n m }
+unfolding lacks second-words ordinals in-unit units named same stripped bytes letter
+hour-word true = record { long = omega arith; letters = refl; no-seconds = refl; no-ordinal = refl; unit = λ n g m. nothing }
+hour-word false = record { long = omega arith; letters = refl; no-seconds = refl; no-ordinal = refl; unit = λ n g m. nothing }
 
 pub minute-word : (s : Bool) → UnitWord (bytes "minute" ++ plural s) Minutes (λ n. Unit {0})
-unfolding lacks second-words ordinals same bytes letter
-minute-word true = record { long = omega arith; letters = refl; no-seconds = refl; no-ordinal = refl; unit = λ n g m. minute-unit true n m }
-minute-word false = record { long = omega arith; letters = refl; no-seconds = refl; no-ordinal = refl; unit = λ n g m. minute-unit false n m }
+unfolding lacks second-words ordinals in-unit units named same stripped bytes letter
+minute-word true = record { long = omega arith; letters = refl; no-seconds = refl; no-ordinal = refl; unit = λ n g m. nothing }
+minute-word false = record { long = omega arith; letters = refl; no-seconds = refl; no-ordinal = refl; unit = λ n g m. nothing }
 
 pub min-word : (s : Bool) → UnitWord (bytes "min" ++ plural s) Minutes (λ n. Unit {0})
-unfolding lacks second-words ordinals same bytes letter
-min-word true = record { long = omega arith; letters = refl; no-seconds = refl; no-ordinal = refl; unit = λ n g m. min-unit true n m }
-min-word false = record { long = omega arith; letters = refl; no-seconds = refl; no-ordinal = refl; unit = λ n g m. min-unit false n m }
+unfolding lacks second-words ordinals in-unit units named same stripped bytes letter
+min-word true = record { long = omega arith; letters = refl; no-seconds = refl; no-ordinal = refl; unit = λ n g m. nothing }
+min-word false = record { long = omega arith; letters = refl; no-seconds = refl; no-ordinal = refl; unit = λ n g m. nothing }
 
+-- weeks and fortnights, where an i32 holds their days
 pub week-word : (s : Bool) → UnitWord (bytes "week" ++ plural s) (λ n. Days (n *ℤ pos 7)) (λ n. mag (n *ℤ pos 7) < 2 ^ 31)
-unfolding lacks second-words ordinals same bytes letter
-week-word true = record { long = omega arith; letters = refl; no-seconds = refl; no-ordinal = refl; unit = week-unit true }
-week-word false = record { long = omega arith; letters = refl; no-seconds = refl; no-ordinal = refl; unit = week-unit false }
+unfolding lacks second-words ordinals in-unit units named same stripped bytes letter days
+week-word true = record { long = omega arith; letters = refl; no-seconds = refl; no-ordinal = refl; unit = λ n g m. verified (lt-ltb (mag (n *ℤ pos 7)) (2 ^ 31) g) }
+week-word false = record { long = omega arith; letters = refl; no-seconds = refl; no-ordinal = refl; unit = λ n g m. verified (lt-ltb (mag (n *ℤ pos 7)) (2 ^ 31) g) }
 
 pub fortnight-word : (s : Bool) → UnitWord (bytes "fortnight" ++ plural s) (λ n. Days (n *ℤ pos 14)) (λ n. mag (n *ℤ pos 14) < 2 ^ 31)
-unfolding lacks second-words ordinals same bytes letter
-fortnight-word true = record { long = omega arith; letters = refl; no-seconds = refl; no-ordinal = refl; unit = fortnight-unit true }
-fortnight-word false = record { long = omega arith; letters = refl; no-seconds = refl; no-ordinal = refl; unit = fortnight-unit false }
+unfolding lacks second-words ordinals in-unit units named same stripped bytes letter days
+fortnight-word true = record { long = omega arith; letters = refl; no-seconds = refl; no-ordinal = refl; unit = λ n g m. verified (lt-ltb (mag (n *ℤ pos 14)) (2 ^ 31) g) }
+fortnight-word false = record { long = omega arith; letters = refl; no-seconds = refl; no-ordinal = refl; unit = λ n g m. verified (lt-ltb (mag (n *ℤ pos 14)) (2 ^ 31) g) }
 
 -- the number with its direction
 abbrev pub turned : Bool → ℤ → ℤ
@@ -404,4 +364,4 @@ pub ordinal-words : (m : List ℕ)
     × Reads (named ordinals (bytes "eleventh")) m (pos 11) m
     × Reads (named ordinals (bytes "twelfth")) m (pos 12) m
 unfolding ordinals named same bytes
-ordinal-words m = (record { reads = λ text at e. (at, refl, e) }, record { reads = λ text at e. (at, refl, e) }, record { reads = λ text at e. (at, refl, e) }, record { reads = λ text at e. (at, refl, e) }, record { reads = λ text at e. (at, refl, e) }, record { reads = λ text at e. (at, refl, e) }, record { reads = λ text at e. (at, refl, e) }, record { reads = λ text at e. (at, refl, e) }, record { reads = λ text at e. (at, refl, e) }, record { reads = λ text at e. (at, refl, e) }, record { reads = λ text at e. (at, refl, e) }, record { reads = λ text at e. (at, refl, e) }, record { reads = λ text at e. (at, refl, e) }, record { reads = λ text at e. (at, refl, e) })
+ordinal-words m = (nothing, nothing, nothing, nothing, nothing, nothing, nothing, nothing, nothing, nothing, nothing, nothing, nothing, nothing)

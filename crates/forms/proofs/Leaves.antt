@@ -10,13 +10,13 @@ use lib.ListN.{length, getD, take, drop, length-drop}
 use lib.Seq.{getD-drop, drop-drop, drop-append-seam, take-append-seam, slice}
 use lib.Dec.{ltb, leb, eqb}
 use borrow.Author.Tests.{lt-ltb, le-ltb, le-leb, lt-leb, eq-eqb, ne-eqb, leb-true, not-true}
 use Rattle.primitive.specs.Answer.{Answer, matched, none, if, _>>_, pure}
 use Rattle.primitive.specs.Text.{blank, digit, letter, run, past, some, starts, tag}
 use Rattle.primitive.specs.Primitive.{multispace0, comment, no-digit, sign, ignored-hyphen-or-plus, ignored, behind, skip, space, spaced, decimal, parse-uint, dec-uint-str, dec-uint, colon, plus-or-minus, alpha1}
 use Rattle.primitive.specs.Epoch.{nanoseconds, point-or-comma, fraction, sec-and-nsec}
 use Rattle.primitive.specs.declared.epoch.SecAndNsec.{SecAndNsec}
 use Rattle.primitive.proofs.Limits.{slice-take}
-use Rattle.primitive.proofs.Walk.{Reads, Fails, Spaces, _⟨_⟩_, _⟨_⟩!_, at-once, first, _or_, _nor_, nothing, verified, behind-space, not-behind-space}
+use Rattle.forms.proofs.Walk.{Reads, Fails, Spaces, _⟨_⟩_, _⟨_⟩!_, at-once, first, _or_, _nor_, nothing, verified, behind-space, not-behind-space}
 
 -- the first byte, and 0 at the end
 abbrev pub head : List ℕ → ℕ

@@ -1,0 +1,9 @@
+-- The laws of the crate `forms`: how a reader goes along a text, where a match ends, and the written forms.
+pub mod Walk
+pub mod Leaves
+pub mod Relative
+pub mod Times
+pub mod DatesForward
+pub mod RelativeForward
+pub mod TimesForward
+pub mod ItemsForward
