@@ -154,9 +154,12 @@ number-still {ds} l n = plain (quiet-digit (head (ds ++ l)) (number-head l n))
 pub word-still : (ws l : List ℕ) → 0 < length ws → all letter ws ≡ true → Still (ws ++ l)
 word-still ws l h g = plain (quiet-letter (head (ws ++ l)) (head-all letter ws l h g))
 
-blanks-read : {l : List ℕ} → blank (head l) ≡ false → Reads multispace0 l tt l
+-- blanks, none or more
+pub blanks-read : (bs : List ℕ) {l : List ℕ} → all blank bs ≡ true → blank (head l) ≡ false → Reads multispace0 (bs ++ l) tt l
 unfolding multispace0 past
-blanks-read {l} h = record { reads = λ text at e. (at + 0, rw (e, run-none blank l h), rw add-zero e) }
+blanks-read bs {l} g h = record {
+  reads = λ text at e. (at + length bs, rw (e, run-all blank bs l g h), rw (← drop-drop (length bs) at text, e) (drop-append-seam bs l));
+}
 
 no-digit-else : {l : List ℕ} → digit (head l) ≡ true → Fails no-digit l
 unfolding no-digit
@@ -173,16 +176,17 @@ still-no-blank (minus h) = refl
 
 -- a sign with a digit behind it is not skipped
 kept : {l : List ℕ} → digit (head l) ≡ true → Fails (multispace0 >> no-digit) l
-kept {l} h = blanks-read (digit-no-blank l h) ⟨ _ ⟩! no-digit-else h
+kept {l} h = blanks-read [] refl (digit-no-blank l h) ⟨ _ ⟩! no-digit-else h
 
-other-byte : (b : ℕ) (l : List ℕ) → eqb (head l) b ≡ false → starts (b ∷ []) l ≡ false
+-- fixed bytes whose first is not there
+pub other-start : (b : ℕ) (w l : List ℕ) → eqb (head l) b ≡ false → starts (b ∷ w) l ≡ false
 unfolding starts
-other-byte b [] h = refl
-other-byte b (c ∷ cs) h = rw h
+other-start b w [] h = refl
+other-start b w (c ∷ cs) h = rw h
 
 -- one byte that is not there
 pub byte-else : (b : ℕ) {l : List ℕ} → eqb (head l) b ≡ false → Fails (tag (b ∷ [])) l
-byte-else b {l} h = tag-else (b ∷ []) (other-byte b l h)
+byte-else b {l} h = tag-else (b ∷ []) (other-start b [] l h)
 
 pub byte-read : (b : ℕ) {l : List ℕ} → Reads (tag (b ∷ [])) (b ∷ l) tt l
 byte-read b = tag-read (b ∷ [])

@@ -3,6 +3,10 @@ pub mod Walk
 pub mod Leaves
 pub mod Relative
 pub mod Times
+pub mod Dates
+pub mod Combined
+pub mod Items
+pub mod TwoItems
 pub mod DatesForward
 pub mod RelativeForward
 pub mod TimesForward

@@ -43,7 +43,7 @@ digit-no-letter b h =
     rw (lt-leb 97 b (omega arith))
 
 -- what passes a test that c does not pass is not c
-other : (p : ℕ → Bool) (b c : ℕ) → p b ≡ true → p c ≡ false → eqb b c ≡ false
+pub other : (p : ℕ → Bool) (b c : ℕ) → p b ≡ true → p c ≡ false → eqb b c ≡ false
 other p b c h g = ne-eqb b c (λ z. let w : true ≡ false = sym h ∙ (ap p z ∙ g) in let y : _≡_ {A = ℕ} 0 1 = cc in clash y)
 
 -- what stands behind blanks and a word's first letter: the first byte is a blank or a letter

@@ -28,23 +28,23 @@ use Rattle.times.specs.declared.time.TimeOffset.the-variants.{Given, NotGiven}
 
 -- ---- combinators of this crate
 
-certain-so : {A : Type 0} {t : Bool} {v : A} {l : List ℕ} → t ≡ true → Reads (certain t v) l v l
+pub certain-so : {A : Type 0} {t : Bool} {v : A} {l : List ℕ} → t ≡ true → Reads (certain t v) l v l
 certain-so h = record { reads = λ text at e. (at, rw h, e) }
 
-unless-read : {A B : Type 0} {p : Reader A} {q : Reader B} {l : List ℕ} {v : B} {m : List ℕ} → Fails p l → Reads q l v m → Reads (unless p q) l v m
+pub unless-read : {A B : Type 0} {p : Reader A} {q : Reader B} {l : List ℕ} {v : B} {m : List ℕ} → Fails p l → Reads q l v m → Reads (unless p q) l v m
 unless-read a b = record {
   reads = λ text at e.
       let (n, h, k) = b .reads text at e in
       (n, rw (a .fails text at e) h, k);
 }
 
-sign-no-digit : (negative : Bool) → digit (signOf negative) ≡ false
+pub sign-no-digit : (negative : Bool) → digit (signOf negative) ≡ false
 unfolding digit
 sign-no-digit true = refl
 sign-no-digit false = refl
 
 -- a number that is too large, or one behind which the rest fails
-number-or-fails : {B : Type 0} (max : ℕ) {ds rest : List ℕ} (f : ℕ → Reader B) → Number ds → digit (head rest) ≡ false → Fails (f (decimal ds)) rest → Fails (spaced (dec-uint max) >>= f) (ds ++ rest)
+pub number-or-fails : {B : Type 0} (max : ℕ) {ds rest : List ℕ} (f : ℕ → Reader B) → Number ds → digit (head rest) ≡ false → Fails (f (decimal ds)) rest → Fails (spaced (dec-uint max) >>= f) (ds ++ rest)
 unfolding dec-uint parse-uint
 number-or-fails max {ds} {rest} f n d a = go (leb (decimal ds) max) refl
   where
@@ -162,7 +162,7 @@ unfolding optional-correction
 no-correction a = at-once _ a or nothing
 
 -- at a colon there is no offset
-not-unless : {A B : Type 0} (p : Reader A) {q : Reader B} {l : List ℕ} → Fails q l → Fails (unless p q) l
+pub not-unless : {A B : Type 0} (p : Reader A) {q : Reader B} {l : List ℕ} → Fails q l → Fails (unless p q) l
 not-unless p {q} a = record { fails = λ text at e. rw (a .fails text at e) (sym (nothing-left (p text at))) }
 
 colon-no-offset : {l : List ℕ} → Fails timezone-offset (58 ∷ l)

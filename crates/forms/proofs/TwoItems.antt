@@ -1,0 +1,204 @@
+-- A written moment and a number of seconds behind it: `2024-03-13 09:30:00.000000000+00:00 -5 seconds` is read as exactly these two items,
+-- and the moment alone as one. The numbers are any rows of digits whose values are in range. Assumes nothing.
+use native.Mathlib.Omega.{arith}
+use borrow.Author.Tests.{lt-ltb, le-ltb, eq-eqb, ne-eqb}
+use Prim.Native.Nat.{ℕ, zero, suc, _-_, _^_, _<_, _≤_}
+use mathlib.Core.Path.{_≡_, refl, sym, ap, _∙_}
+use mathlib.Core.List.{List, [], _∷_, _++_, append-assoc}
+use mathlib.Core.Bool.{Bool, true, false}
+use lib.ListN.{length, drop, length-drop, length-append}
+use lib.Dec.{eqb}
+use Rattle.primitive.specs.Text.{bytes, blank, digit, letter, starts}
+use Rattle.primitive.specs.Primitive.{space, decimal}
+use Rattle.primitive.specs.Epoch.{padded, nanoseconds}
+use Rattle.primitive.specs.Ordinal.{signed}
+use Rattle.dates.specs.Year.{widenedBy, widened}
+use Rattle.dates.specs.Date.{dateOf}
+use Rattle.dates.specs.declared.date.DateYear.the-variants as year
+use Rattle.times.specs.Offset.{inRange}
+use Rattle.times.specs.Time.{iso}
+use Rattle.times.specs.declared.time.Time.{Time}
+use Rattle.times.specs.declared.time.TimeOffset.the-variants as zone
+use Rattle.relative.specs.Relative.{direction, rounded}
+use Rattle.relative.specs.Relative.{parse as parse-relative}
+use Rattle.relative.specs.declared.Relative.the-variants.{Seconds}
+use Rattle.items.specs.Combined.{starts-with-meridiem}
+use Rattle.items.specs.Items.{iso-date, parse-item, ended, itemsFrom, parse-items}
+use Rattle.items.specs.declared.Item.{Item}
+use Rattle.items.specs.declared.Item.the-variants as item
+use Rattle.items.specs.declared.Slot.{Slot}
+use Rattle.forms.proofs.Walk.{Reads, Fails, Spaces, first, said, not-behind-space}
+use Rattle.forms.proofs.Leaves.{head, Number, Still, plain, tag-else, number-head, number-still, still, blanks, signOf, seconds-read, fractional-read}
+use Rattle.forms.proofs.Leaves.{signed as sign-still}
+use Rattle.forms.proofs.Relative.{Word, none-read, second-unit, signed-seconds-item}
+use Rattle.forms.proofs.Times.{iso-read, second-read, correction-given, colon-correction-read, sign-no-digit}
+use Rattle.forms.proofs.Dates.{Dated, iso1-read}
+use Rattle.forms.proofs.Combined.{no-meridiem, combined-item}
+use Rattle.forms.proofs.Items.{no-iso, no-date, no-time, relative-last}
+
+-- ---- a moment: its digits, what is asked of them, its text and its item
+
+pub record Digits : Type 0 where
+  pub year : List ℕ
+  pub month : List ℕ
+  pub day : List ℕ
+  pub hour : List ℕ
+  pub minute : List ℕ
+  pub second : List ℕ
+  pub fraction : List ℕ
+  pub negative : Bool
+  pub zone-hours : List ℕ
+  pub zone-minutes : List ℕ
+
+pub record InRange (r : Digits) : Type 0 where
+  pub date : Dated (r .year) (r .month) (r .day)
+  pub hour : Number (r .hour)
+  pub minute : Number (r .minute)
+  pub second : Number (r .second)
+  pub fraction : Number (r .fraction)
+  pub zone-hours : Number (r .zone-hours)
+  pub zone-minutes : Number (r .zone-minutes)
+  pub hour-small : decimal (r .hour) < 24
+  pub minute-small : decimal (r .minute) < 60
+  pub second-small : decimal (r .second) < 60
+  pub zone-hours-small : decimal (r .zone-hours) ≤ 24
+  pub zone-minutes-small : decimal (r .zone-minutes) ≤ 60
+  pub zone : inRange (decimal (r .zone-hours)) (decimal (r .zone-minutes)) ≡ true
+
+-- `-` is 45, `:` is 58 and `.` is 46
+abbrev pub clockText : Digits → List ℕ → List ℕ
+clockText r rest = r .hour ++ (58 ∷ (r .minute ++ (58 ∷ (r .second ++ (46 ∷ (r .fraction ++ (signOf (r .negative) ∷ (r .zone-hours ++ (58 ∷ (r .zone-minutes ++ rest))))))))))
+
+abbrev pub momentText : Digits → List ℕ → List ℕ
+momentText r rest = r .year ++ (45 ∷ (r .month ++ (45 ∷ (r .day ++ (32 ∷ clockText r rest)))))
+
+abbrev pub timeOf : Digits → Time
+timeOf r = record {
+  hour = decimal (r .hour);
+  minute = decimal (r .minute);
+  second = decimal (r .second);
+  nanosecond = nanoseconds (r .fraction);
+  offset = zone.Given (record { negative = r .negative; hours = decimal (r .zone-hours); minutes = decimal (r .zone-minutes) });
+}
+
+abbrev pub momentItem : Digits → Item
+momentItem r = item.DateTime (record { date = dateOf (year.Given (widened (r .year))) (decimal (r .month)) (decimal (r .day)); time = timeOf r })
+
+-- a year of three digits or more is its number, nine digits of a fraction are theirs
+pub long-year : (ys : List ℕ) → 2 < length ys → widened ys ≡ decimal ys
+unfolding widenedBy
+long-year ys h = rw (ne-eqb (length ys) 2 (λ z. omega arith))
+
+padded-all : (ds : List ℕ) → padded (length ds) ds ≡ ds
+unfolding padded
+padded-all [] = refl
+padded-all (d ∷ ds) = ap (λ l. d ∷ l) (padded-all ds)
+
+pub nine-digits : (fs : List ℕ) → length fs ≡ 9 → nanoseconds fs ≡ decimal fs
+unfolding nanoseconds
+nine-digits fs h = rw (← h, padded-all fs)
+
+module _ (r : Digits) (a : InRange r) {rest : List ℕ} (d : digit (head rest) ≡ false) where
+  time-read : Reads iso (clockText r rest) (timeOf r) rest
+  unfolding digit
+  time-read =
+      iso-read (a .hour) (a .minute) (a .hour-small) (a .minute-small) refl
+      (second-read (number-head _ (a .second)) (fractional-read false (a .second) (omega arith) (a .fraction) (sign-no-digit (r .negative))) (a .second-small))
+      (correction-given (colon-correction-read (r .negative) (a .zone-hours) (a .zone-minutes) d (a .zone) (omega arith) (omega arith)))
+
+  -- The moment is one item, where behind it stands no digit, and behind blanks neither am nor pm.
+  pub moment-item : Fails starts-with-meridiem rest → Reads parse-item (momentText r rest) (momentItem r) rest
+  unfolding iso-date digit
+  moment-item m = combined-item false (first _ (iso1-read (a .date) refl)) (number-head _ (a .hour)) time-read m
+
+-- ---- a number of seconds
+
+abbrev pub shiftText : Bool → List ℕ → List ℕ
+shiftText negative ns = 32 ∷ (signOf negative ∷ (ns ++ (32 ∷ bytes "seconds")))
+
+by-sign : (negative : Bool) (n : ℕ) → rounded negative (record { sec = n; nsec = 0 }) ≡ Seconds (signed negative n) 0
+unfolding rounded signed
+by-sign true n = refl
+by-sign false n = refl
+
+-- a fact of both signs
+sign-fact : (p : ℕ → Bool) → p 43 ≡ false → p 45 ≡ false → (negative : Bool) → p (signOf negative) ≡ false
+sign-fact p f g true = g
+sign-fact p f g false = f
+
+no-direction : Reads direction [] false []
+unfolding blank bytes starts
+no-direction = none-read (not-behind-space (still (plain refl)) (tag-else _ refl)) (not-behind-space (still (plain refl)) (tag-else _ refl))
+
+module _ (negative : Bool) {ns : List ℕ} (n : Number ns) (small : decimal ns < 2 ^ 63) where
+  pub shift-space : Spaces (shiftText negative ns) (signOf negative ∷ (ns ++ (32 ∷ bytes "seconds")))
+  unfolding blank
+  shift-space = blanks (32 ∷ []) refl (sign-still negative (number-head _ n))
+
+  seconds-word : Word (bytes "seconds") []
+  unfolding bytes letter
+  seconds-word = record { long = omega arith; letters = refl; ends = refl }
+
+  seconds-item : Reads parse-relative (shiftText negative ns) (Seconds (signed negative (decimal ns)) 0) []
+  unfolding bytes blank digit
+  seconds-item =
+      said (by-sign negative (decimal ns))
+      (signed-seconds-item seconds-word no-direction (32 ∷ []) refl (second-unit true) (32 ∷ []) refl negative (number-head _ n) (seconds-read n (omega arith) refl refl refl) small)
+
+  pub shift-item : Reads parse-item (shiftText negative ns) (item.Relative (Seconds (signed negative (decimal ns)) 0)) []
+  unfolding digit letter
+  shift-item =
+      let s = shift-space in
+      let k = sign-still negative (number-head (32 ∷ bytes "seconds") n) in
+      let d = sign-no-digit negative in
+      relative-last seconds-item (no-iso s d refl) (no-date s d k (sign-fact letter refl refl negative)) (no-time s d)
+
+-- ---- the list of items
+
+-- Where the text goes on as l, behind the items xs and with room for k more, it has the items ys in all, and nothing is left.
+pub record Lists (k : ℕ) (xs : List Slot) (l : List ℕ) (ys : List Slot) : Type 0 where
+  pub lists : (text : List ℕ) (at : ℕ) → drop at text ≡ l → itemsFrom k xs text at ≡ ended ys 0 0
+
+module _ (text : List ℕ) (i : ℕ) where
+  outside : drop i text ≡ [] → length text ≤ i
+  outside e = let z : length text - i ≡ 0 = sym (length-drop i text) ∙ ap length e in omega arith
+
+  within : (m : List ℕ) → 0 < length m → drop i text ≡ m → i < length text
+  within m h e = let z : length text - i ≡ length m = sym (length-drop i text) ∙ ap length e in omega arith
+
+pub no-more-items : {k : ℕ} {xs : List Slot} {l : List ℕ} → Spaces l [] → Lists k xs l xs
+unfolding itemsFrom
+no-more-items {k} {xs} s = record { lists = λ text at e. go k text at (outside text (space text at) (s .spaces text at e)) }
+  where
+    go : (k : ℕ) (text : List ℕ) (at : ℕ) → length text ≤ space text at → itemsFrom k xs text at ≡ ended xs 0 0
+    go zero text at h = rw (le-ltb (space text at) (length text) h)
+    go (suc k) text at h = rw (le-ltb (space text at) (length text) h)
+
+pub one-item : {k : ℕ} {xs : List Slot} {l m : List ℕ} {v : Item} {rest : List ℕ} {ys : List Slot} → Spaces l m → 0 < length m → Reads parse-item l v rest → Lists k (xs ++ (record { item = v } ∷ [])) rest ys → Lists (suc k) xs l ys
+unfolding itemsFrom
+one-item {m = m} s h a r = record {
+  lists = λ text at e.
+      let (n, g, d) = a .reads text at e in
+      rw (lt-ltb (space text at) (length text) (within text (space text at) m h (s .spaces text at e)), g) (r .lists text n d);
+}
+
+-- ---- the two theorems
+
+module _ (r : Digits) (a : InRange r) where
+  moment-first : {k : ℕ} {rest : List ℕ} {ys : List Slot} → digit (head rest) ≡ false → Fails starts-with-meridiem rest → Lists k (record { item = momentItem r } ∷ []) rest ys → Lists (suc k) [] (momentText r rest) ys
+  moment-first d m l =
+      let long = a .date .year .long in
+      one-item (still (number-still _ (a .date .year))) (simp length-append (omega arith)) (moment-item r a d m) l
+
+  -- The moment alone is one item.
+  pub one-item-text : parse-items (momentText r []) ≡ ended (record { item = momentItem r } ∷ []) 0 0
+  unfolding parse-items digit blank
+  one-item-text = moment-first refl (no-meridiem [] [] refl refl refl refl) (no-more-items (still (plain refl))) .lists _ 0 refl
+
+  -- The moment and a number of seconds, up to 9223372036854775807 either way, are two.
+  pub two-items-text : (negative : Bool) {ns : List ℕ} → Number ns → decimal ns < 2 ^ 63 → parse-items (momentText r [] ++ shiftText negative ns) ≡ ended (record { item = momentItem r } ∷ record { item = item.Relative (Seconds (signed negative (decimal ns)) 0) } ∷ []) 0 0
+  unfolding parse-items digit blank
+  two-items-text negative {ns} n small =
+      simp append-assoc
+      (moment-first refl (no-meridiem (32 ∷ []) _ refl (sign-fact blank refl refl negative) (sign-fact (λ b. eqb b 97) refl refl negative) (sign-fact (λ b. eqb b 112) refl refl negative))
+      (one-item (shift-space negative n small) (omega arith) (shift-item negative n small) (no-more-items (still (plain refl)))) .lists _ 0 refl)
