@@ -6,7 +6,7 @@ use mathlib.Core.List.{List, [], _∷_, _++_}
 use mathlib.Core.Bool.{Bool, true, false}
 use lib.Dec.{eqb}
 use Rattle.primitive.specs.Answer.{Reader, pure}
-use Rattle.primitive.specs.Text.{bytes, blank, digit, starts}
+use Rattle.primitive.specs.Text.{bytes, blank, digit}
 use Rattle.primitive.specs.Primitive.{space}
 use Rattle.dates.specs.declared.date.Date.{Date}
 use Rattle.times.specs.Time.{iso, parse}
@@ -14,9 +14,8 @@ use Rattle.times.specs.declared.time.Time.{Time}
 use Rattle.items.specs.Combined.{attempt, skip-space, separator, meridiem-word, starts-with-meridiem, unless-meridiem, iso-alone, combined-time, parse-time-after-date}
 use Rattle.items.specs.Items.{date-time-item, dated-item, iso-date, iso-item, other-item, parse-item}
 use Rattle.items.specs.declared.Item.the-variants as item
-use Rattle.forms.proofs.Walk.{Reads, Fails, Spaces, _⟨_⟩_, _⟨_⟩!_, at-once, first, _or_, _nor_, nothing, not-behind-space, behind-space}
-use Rattle.forms.proofs.Leaves.{head, all, plain, digit-still, still, blanks, blanks-read, other-start, tag-else, byte-read, byte-else}
-use Rattle.forms.proofs.Relative.{other}
+use Rattle.forms.proofs.Walk.{Reads, Fails, Spaces, _⟨_⟩_, _⟨_⟩!_, first, _or_, _nor_, nothing, not-behind-space, behind-space}
+use Rattle.forms.proofs.Leaves.{head, all, other, plain, digit-still, still, blanks, blanks-read, other-start, tag-else, byte-read, byte-else}
 use Rattle.forms.proofs.Times.{unless-read}
 
 -- ---- the separator

@@ -4,9 +4,9 @@ use mathlib.Core.List.{List, [], _∷_, _++_}
 use mathlib.Core.Bool.{Bool, true, false}
 use lib.ListN.{length}
 use lib.Dec.{leb}
-use Rattle.primitive.specs.Answer.{Reader, if, _>>=_, _>>_, _<|>_, pure, value, optional, verify, matched, none}
+use Rattle.primitive.specs.Answer.{Reader, if, matched, none}
 use Rattle.primitive.specs.Text.{byte}
-use Rattle.primitive.specs.Primitive.{multispace1, spaced, parse-uint, dec-uint-str, dec-uint, alpha1, named}
+use Rattle.primitive.specs.Primitive.{multispace1, spaced, dec-uint-str, dec-uint}
 use Rattle.primitive.proofs.Forward.{Forward, none-ends, if-ends, then-forward, next-forward, or-forward, pure-forward, verify-forward, optional-forward, value-forward, tag-forward, named-forward, multispace1-forward, spaced-forward, dec-uint-str-forward, parse-uint-forward, dec-uint-forward, alpha1-forward}
 use Rattle.dates.specs.declared.date.DateYear.the-variants.{Given, Absent}
 use Rattle.dates.specs.Year.{widened, year-from-str, year-str}

@@ -1,12 +1,10 @@
 -- From each reader up to `parse-item`: the readers that are tried in front of it fail on its written forms, so that the form is the item,
 -- with what stands behind it left to read. Assumes nothing.
-use native.Mathlib.Omega.{arith}
 use Prim.Native.Nat.{ℕ}
-use mathlib.Core.Path.{_≡_, refl}
-use mathlib.Core.List.{List, [], _∷_, _++_}
-use mathlib.Core.Bool.{Bool, true, false}
-use lib.Dec.{eqb}
-use Rattle.primitive.specs.Answer.{Reader, pure}
+use mathlib.Core.Path.{_≡_}
+use mathlib.Core.List.{List}
+use mathlib.Core.Bool.{false}
+use Rattle.primitive.specs.Answer.{pure}
 use Rattle.primitive.specs.Text.{digit, letter}
 use Rattle.primitive.specs.Primitive.{spaced, dec-uint}
 use Rattle.dates.specs.Year.{year-str}
@@ -17,7 +15,7 @@ use Rattle.relative.specs.Relative.{parse as parse-relative}
 use Rattle.relative.specs.declared.Relative.{Relative}
 use Rattle.items.specs.Items.{iso-date, iso-item, date-item, time-item, relative-item, time-or-relative, other-item, parse-item}
 use Rattle.items.specs.declared.Item.the-variants as item
-use Rattle.forms.proofs.Walk.{Reads, Fails, Spaces, _⟨_⟩_, _⟨_⟩!_, at-once, first, _or_, _nor_, nothing, not-behind-space, misses}
+use Rattle.forms.proofs.Walk.{Reads, Fails, Spaces, _⟨_⟩_, at-once, _or_, _nor_, nothing, not-behind-space, misses}
 use Rattle.forms.proofs.Leaves.{head, Still, still, number-else, str-else, word-else}
 
 -- ---- where no digit stands in front

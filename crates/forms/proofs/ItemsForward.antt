@@ -1,5 +1,4 @@
 -- Where an item ends: never before the place asked, and within the text where that place is. Assumes nothing.
-use Prim.Native.Nat.{ℕ}
 use mathlib.Core.Path.{_≡_}
 use Rattle.primitive.specs.Answer.{Answer, Reader, matched, none, stop, pure}
 use Rattle.primitive.specs.Primitive.{space}

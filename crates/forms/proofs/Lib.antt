@@ -1,9 +1,11 @@
 -- The laws of the crate `forms`: how a reader goes along a text, where a match ends, and the written forms.
 pub mod Walk
 pub mod Leaves
+pub mod Tables
 pub mod Relative
 pub mod Times
 pub mod Dates
+pub mod LiteralDates
 pub mod Combined
 pub mod Items
 pub mod TwoItems

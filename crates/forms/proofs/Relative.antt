@@ -2,63 +2,36 @@
 -- range; blanks may stand between the tokens. What may stand behind the item is a premise: no letter at once, and no word of
 -- direction where none is meant. Assumes nothing.
 use native.Mathlib.Omega.{arith}
-use borrow.Author.Tests.{lt-ltb, le-leb, lt-leb, leb-true, eqb-true, ne-eqb, not-true}
+use borrow.Author.Tests.{lt-ltb}
 use Prim.Native.Nat.{ℕ, _^_, _<_, _≤_}
 use Prim.Native.String.{String}
-use mathlib.Core.Path.{_≡_, refl, sym, ap, _∙_}
-use mathlib.Core.List.{List, [], _∷_, _++_}
-use mathlib.Core.Bool.{Bool, true, false, _&&_, _||_, not}
+use mathlib.Core.Path.{_≡_, refl}
+use mathlib.Core.List.{List, [], _∷_, _++_, List·Memᴰ}
+use mathlib.Core.Bool.{Bool, true, false, not}
 use lib.ListN.{length}
-use lib.Dec.{leb, eqb}
-use lib.IntN.{ℤ, pos, negsuc, negℤ, _*ℤ_}
+use lib.Dec.{eqb}
+use lib.IntN.{ℤ, pos, negℤ, _*ℤ_}
 use lib.Signed.{mag}
-use Rattle.primitive.specs.Answer.{none, if, optional, pure}
+use Rattle.primitive.specs.Answer.{if, optional, pure}
 use Rattle.primitive.specs.Text.{bytes, blank, digit, letter, starts, quoted}
 use Rattle.primitive.specs.Primitive.{spaced, decimal, sign, same, named}
 use Rattle.primitive.specs.Epoch.{sec-and-nsec}
 use Rattle.primitive.specs.Ordinal.{signed, ordinals, text-ordinal, signed-number, number-ordinal, ordinal}
 use Rattle.primitive.specs.declared.epoch.SecAndNsec.{SecAndNsec}
 use Rattle.forms.proofs.Walk.{Reads, Fails, Spaces, _⟨_⟩_, _⟨_⟩!_, at-once, first, _or_, _nor_, nothing, verified, behind-space, not-behind-space}
-use Rattle.forms.proofs.Leaves.{head, all, halves, head-all, Number, tag-read, tag-else, word-read, word-else, number-read, number-else, number-head, digit-still, number-still, seconds-read, seconds-else, word-still, blanks, still, signOf, sign-here, no-sign-here, sign-read, sign-else}
+use Rattle.forms.proofs.Leaves.{head, all, halves, letter-no-digit, digit-no-letter, blank-no-digit, other, head-all, Number, tag-read, tag-else, word-read, word-else, number-read, number-else, number-head, digit-still, number-still, seconds-read, seconds-else, word-still, blanks, still, signOf, sign-here, no-sign-here, sign-read, sign-else}
 use Rattle.forms.proofs.Leaves.{signed as sign-still}
+use Rattle.forms.proofs.Tables.{lacks, not-named, distinct, table-read}
 use Rattle.relative.specs.Relative.{direction, rounded, second-words, second-word, signed-seconds, seconds, days, units, stripped, in-unit, displaced, displacement, parse}
 use Rattle.relative.specs.declared.Relative.{Relative}
 use Rattle.relative.specs.declared.Relative.the-variants.{Years, Months, Days, Hours, Minutes}
 
--- ---- bytes by their kind
+-- ---- what stands behind blanks and a word's first letter: the first byte is a blank or a letter
 
-clash : _≡_ {A = ℕ} 0 1 → ⊥
-clash z = omega arith
-
-letter-no-digit : (b : ℕ) → letter b ≡ true → digit b ≡ false
-unfolding letter digit
-letter-no-digit b h =
-    let l = leb-true 97 b (halves (leb 97 b) (leb b 122) h .0) in
-    rw (le-leb 48 b (omega arith), lt-leb b 57 (omega arith))
-
-digit-no-letter : (b : ℕ) → digit b ≡ true → letter b ≡ false
-unfolding letter digit
-digit-no-letter b h =
-    let l = leb-true b 57 (halves (leb 48 b) (leb b 57) h .1) in
-    rw (lt-leb 97 b (omega arith))
-
--- what passes a test that c does not pass is not c
-pub other : (p : ℕ → Bool) (b c : ℕ) → p b ≡ true → p c ≡ false → eqb b c ≡ false
-other p b c h g = ne-eqb b c (λ z. let w : true ≡ false = sym h ∙ (ap p z ∙ g) in let y : _≡_ {A = ℕ} 0 1 = cc in clash y)
-
--- what stands behind blanks and a word's first letter: the first byte is a blank or a letter
 module _ (p : ℕ → Bool) (f : (b : ℕ) → blank b ≡ true → p b ≡ false) (g : (b : ℕ) → letter b ≡ true → p b ≡ false) where
   gap-head : (bs w l : List ℕ) → all blank bs ≡ true → 0 < length w → all letter w ≡ true → p (head (bs ++ (w ++ l))) ≡ false
   gap-head [] w l a h k = g _ (head-all letter w l h k)
   gap-head (b ∷ bs) w l a h k = f b (halves (blank b) (all blank bs) a .0)
-
-blank-no-digit : (b : ℕ) → blank b ≡ true → digit b ≡ false
-unfolding blank digit
-blank-no-digit b = go (eqb b 32) refl
-  where
-    go : (t : Bool) → eqb b 32 ≡ t → t || (leb 9 b && leb b 13) ≡ true → leb 48 b && leb b 57 ≡ false
-    go true e h = let z = eqb-true b 32 e in rw (lt-leb 48 b (omega arith))
-    go false e h = let l = leb-true b 13 (halves (leb 9 b) (leb b 13) h .1) in rw (lt-leb 48 b (omega arith))
 
 -- ---- directions
 
@@ -261,19 +234,6 @@ unfolding second-words named same bytes
 sec-unit true m = nothing
 sec-unit false m = nothing
 
--- a word that a table does not have: computed for each unit and each table
-unfoldable pub lacks : {A : Type 0} → List (String × A) → List ℕ → Bool
-lacks [] w = true
-lacks (e ∷ es) w = not (same w (bytes (e .0))) && lacks es w
-
-not-found : {A : Type 0} (w text : List ℕ) (at : ℕ) (es : List (String × A)) → lacks es w ≡ true → named es w text at ≡ none
-unfolding lacks named
-not-found w text at [] h = refl
-not-found w text at (x ∷ xs) h = let t = halves (not (same w (bytes (x .0)))) (lacks xs w) h in rw (not-true (same w (bytes (x .0))) (t .0)) (not-found w text at xs (t .1))
-
-pub not-named : {A : Type 0} (es : List (String × A)) (w : List ℕ) → lacks es w ≡ true → (m : List ℕ) → Fails (named es w) m
-not-named es w h m = record { fails = λ text at e. not-found w text at es h }
-
 -- ---- every unit but seconds, in every form
 
 -- a word for a unit: what it makes of a number n, where n is one that it can be given
@@ -347,21 +307,7 @@ module _ {w : List ℕ} {f : ℤ → Relative} {given : ℤ → Type 0} (u : Uni
   pub bare-form : given (turned ago (pos 1)) → Reads parse (bs ++ (w ++ l)) (f (turned ago (pos 1))) rest
   bare-form g = bare-item the-word d bs b (not-named ordinals w (u .no-ordinal)) (u .unit _ g)
 
--- 29.1: the ordinal words
-pub ordinal-words : (m : List ℕ)
-    → Reads (named ordinals (bytes "last")) m (negsuc 0) m
-    × Reads (named ordinals (bytes "this")) m (pos 0) m
-    × Reads (named ordinals (bytes "next")) m (pos 1) m
-    × Reads (named ordinals (bytes "first")) m (pos 1) m
-    × Reads (named ordinals (bytes "third")) m (pos 3) m
-    × Reads (named ordinals (bytes "fourth")) m (pos 4) m
-    × Reads (named ordinals (bytes "fifth")) m (pos 5) m
-    × Reads (named ordinals (bytes "sixth")) m (pos 6) m
-    × Reads (named ordinals (bytes "seventh")) m (pos 7) m
-    × Reads (named ordinals (bytes "eighth")) m (pos 8) m
-    × Reads (named ordinals (bytes "ninth")) m (pos 9) m
-    × Reads (named ordinals (bytes "tenth")) m (pos 10) m
-    × Reads (named ordinals (bytes "eleventh")) m (pos 11) m
-    × Reads (named ordinals (bytes "twelfth")) m (pos 12) m
-unfolding ordinals named same bytes
-ordinal-words m = (nothing, nothing, nothing, nothing, nothing, nothing, nothing, nothing, nothing, nothing, nothing, nothing, nothing, nothing)
+-- 29.1: the ordinal words, each of the table
+pub ordinal-words : {e : String × ℤ} → List·Memᴰ e ordinals → (m : List ℕ) → Reads (named ordinals (bytes (e .0))) m (e .1) m
+unfolding distinct ordinals same bytes
+ordinal-words = table-read ordinals refl

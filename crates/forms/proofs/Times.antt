@@ -8,7 +8,7 @@ use mathlib.Core.List.{List, _∷_, _++_}
 use mathlib.Core.Bool.{Bool, true, false}
 use lib.ListN.{length}
 use lib.Dec.{ltb, leb}
-use Rattle.primitive.specs.Answer.{Reader, none, if, pure, verify, _>>=_}
+use Rattle.primitive.specs.Answer.{Reader, if, pure, verify, _>>=_}
 use Rattle.primitive.specs.Text.{bytes, blank, digit, starts}
 use Rattle.primitive.specs.Primitive.{spaced, colon, decimal, parse-uint, dec-uint}
 use Rattle.primitive.specs.Epoch.{fraction, sec-and-nsec}
@@ -18,7 +18,7 @@ use Rattle.forms.proofs.Leaves.{head, all, Number, plain, tag-read, tag
 use Rattle.forms.proofs.Leaves.{signed as sign-still}
 use Rattle.relative.specs.Relative.{parse as relative}
 use Rattle.times.proofs.Chain.{nothing-left}
-use Rattle.times.specs.Offset.{certain, without, unless, inRange, offset-of, timezone-offset-colon, digits-offset, timezone-offset-colonless, any-offset, signed-fraction, time-zone-correction, timezone-offset}
+use Rattle.times.specs.Offset.{certain, unless, inRange, offset-of, timezone-offset-colon, digits-offset, timezone-offset-colonless, any-offset, signed-fraction, time-zone-correction, timezone-offset}
 use Rattle.times.specs.Time.{below, hour24, hour12, minute, second, optional-second, optional-minute, optional-correction, hour-offset, clock, iso, meridiem, am-pm-time, parse}
 use Rattle.times.specs.declared.offset.Offset.{Offset}
 use Rattle.times.specs.declared.time.Time.{Time}

@@ -1,7 +1,7 @@
 -- A written moment and a number of seconds behind it: `2024-03-13 09:30:00.000000000+00:00 -5 seconds` is read as exactly these two items,
 -- and the moment alone as one. The numbers are any rows of digits whose values are in range. Assumes nothing.
 use native.Mathlib.Omega.{arith}
-use borrow.Author.Tests.{lt-ltb, le-ltb, eq-eqb, ne-eqb}
+use borrow.Author.Tests.{lt-ltb, le-ltb, ne-eqb}
 use Prim.Native.Nat.{ℕ, zero, suc, _-_, _^_, _<_, _≤_}
 use mathlib.Core.Path.{_≡_, refl, sym, ap, _∙_}
 use mathlib.Core.List.{List, [], _∷_, _++_, append-assoc}
@@ -13,8 +13,6 @@ use Rattle.primitive.specs.Primitive.{space, decimal}
 use Rattle.primitive.specs.Epoch.{padded, nanoseconds}
 use Rattle.primitive.specs.Ordinal.{signed}
 use Rattle.dates.specs.Year.{widenedBy, widened}
-use Rattle.dates.specs.Date.{dateOf}
-use Rattle.dates.specs.declared.date.DateYear.the-variants as year
 use Rattle.times.specs.Offset.{inRange}
 use Rattle.times.specs.Time.{iso}
 use Rattle.times.specs.declared.time.Time.{Time}
@@ -28,11 +26,11 @@ use Rattle.items.specs.declared.Item.{Item}
 use Rattle.items.specs.declared.Item.the-variants as item
 use Rattle.items.specs.declared.Slot.{Slot}
 use Rattle.forms.proofs.Walk.{Reads, Fails, Spaces, first, said, not-behind-space}
-use Rattle.forms.proofs.Leaves.{head, Number, Still, plain, tag-else, number-head, number-still, still, blanks, signOf, seconds-read, fractional-read}
+use Rattle.forms.proofs.Leaves.{head, Number, plain, tag-else, number-head, number-still, still, blanks, signOf, seconds-read, fractional-read}
 use Rattle.forms.proofs.Leaves.{signed as sign-still}
 use Rattle.forms.proofs.Relative.{Word, none-read, second-unit, signed-seconds-item}
 use Rattle.forms.proofs.Times.{iso-read, second-read, correction-given, colon-correction-read, sign-no-digit}
-use Rattle.forms.proofs.Dates.{Dated, iso1-read}
+use Rattle.forms.proofs.Dates.{Year, inYear, iso1-read}
 use Rattle.forms.proofs.Combined.{no-meridiem, combined-item}
 use Rattle.forms.proofs.Items.{no-iso, no-date, no-time, relative-last}
 
@@ -51,7 +49,9 @@ pub record Digits : Type 0 where
   pub zone-minutes : List ℕ
 
 pub record InRange (r : Digits) : Type 0 where
-  pub date : Dated (r .year) (r .month) (r .day)
+  pub year : Year (r .year) (decimal (r .month)) (decimal (r .day))
+  pub month : Number (r .month)
+  pub day : Number (r .day)
   pub hour : Number (r .hour)
   pub minute : Number (r .minute)
   pub second : Number (r .second)
@@ -82,7 +82,7 @@ timeOf r = record {
 }
 
 abbrev pub momentItem : Digits → Item
-momentItem r = item.DateTime (record { date = dateOf (year.Given (widened (r .year))) (decimal (r .month)) (decimal (r .day)); time = timeOf r })
+momentItem r = item.DateTime (record { date = inYear (r .year) (decimal (r .month)) (decimal (r .day)); time = timeOf r })
 
 -- a year of three digits or more is its number, nine digits of a fraction are theirs
 pub long-year : (ys : List ℕ) → 2 < length ys → widened ys ≡ decimal ys
@@ -109,7 +109,7 @@ module _ (r : Digits) (a : InRange r) {rest : List ℕ} (d : digit (head rest) �
   -- The moment is one item, where behind it stands no digit, and behind blanks neither am nor pm.
   pub moment-item : Fails starts-with-meridiem rest → Reads parse-item (momentText r rest) (momentItem r) rest
   unfolding iso-date digit
-  moment-item m = combined-item false (first _ (iso1-read (a .date) refl)) (number-head _ (a .hour)) time-read m
+  moment-item m = combined-item false (first _ (iso1-read (still (number-still _ (a .year .number))) (a .month) (a .day) (a .year) refl)) (number-head _ (a .hour)) time-read m
 
 -- ---- a number of seconds
 
@@ -187,8 +187,8 @@ one-item {m = m} s h a r = record {
 module _ (r : Digits) (a : InRange r) where
   moment-first : {k : ℕ} {rest : List ℕ} {ys : List Slot} → digit (head rest) ≡ false → Fails starts-with-meridiem rest → Lists k (record { item = momentItem r } ∷ []) rest ys → Lists (suc k) [] (momentText r rest) ys
   moment-first d m l =
-      let long = a .date .year .long in
-      one-item (still (number-still _ (a .date .year))) (simp length-append (omega arith)) (moment-item r a d m) l
+      let long = a .year .number .long in
+      one-item (still (number-still _ (a .year .number))) (simp length-append (omega arith)) (moment-item r a d m) l
 
   -- The moment alone is one item.
   pub one-item-text : parse-items (momentText r []) ≡ ended (record { item = momentItem r } ∷ []) 0 0

@@ -5,7 +5,7 @@ use mathlib.Core.Path.{_≡_, refl, ap}
 use mathlib.Core.List.{List}
 use mathlib.Core.Bool.{Bool, true, false}
 use lib.ListN.{length, drop, length-drop}
-use Rattle.primitive.specs.Answer.{Reader, matched, none, _>>=_, _>>_, _<|>_, pure, value, optional, verify}
+use Rattle.primitive.specs.Answer.{Reader, matched, none, _>>=_, _<|>_, pure, verify}
 use Rattle.primitive.specs.Primitive.{space, spaced}
 use Rattle.primitive.proofs.Forward.{Forward}
 

@@ -1,0 +1,155 @@
+-- The dates of 29.2 whose month is a name, read as exactly their date: every name of the table. Space may stand in front and between the
+-- parts; a hyphen in front of a letter is space too. What may stand behind the date is a premise. Assumes nothing.
+use native.Mathlib.Omega.{arith}
+use borrow.Author.Tests.{eqb-true}
+use Prim.Native.Nat.{ℕ, _<_, _≤_}
+use Prim.Native.String.{String}
+use mathlib.Core.Path.{_≡_, refl, ap, _∙_}
+use mathlib.Core.List.{List, [], _∷_, _++_, append-assoc, List·Memᴰ}
+use mathlib.Core.Bool.{Bool, true, false, _&&_, _||_}
+use lib.ListN.{length}
+use lib.Dec.{eqb}
+use Rattle.primitive.specs.Text.{bytes, blank, digit, letter}
+use Rattle.primitive.specs.Primitive.{multispace1, spaced, decimal, same, named}
+use Rattle.dates.specs.Date.{with-year, dated-behind, hyphen, comma, months, word-dot, literal-month, literal1, literal2, literal3}
+use Rattle.dates.specs.declared.date.Date.{Date}
+use Rattle.forms.proofs.Walk.{Reads, Spaces, _⟨_⟩_, at-once, first, _or_, nothing, behind-space, not-behind-space}
+use Rattle.forms.proofs.Leaves.{head, all, halves, both, head-all, other, Number, Still, some-read, byte-read, byte-else, word-read, letter-still, still}
+use Rattle.forms.proofs.Tables.{every, every-one, distinct, table-read}
+use Rattle.forms.proofs.Dates.{Year, inYear, day-small, small-read, year-str-read, here, minus-read, with-year-read}
+
+-- ---- the names of months
+
+-- letters, one or more, and a dot behind them or none; `.` is 46
+abbrev pub withDot : Bool → List ℕ → List ℕ
+withDot true ws = ws ++ (46 ∷ [])
+withDot false ws = ws
+
+-- a name of month k
+pub record Month (w : List ℕ) (k : ℕ) : Type 0 where
+  pub word : List ℕ
+  pub dot : Bool
+  pub spelling : w ≡ withDot dot word
+  pub long : 0 < length word
+  pub letters : all letter word ≡ true
+  pub found : (l : List ℕ) → Reads (named months w) l k l
+
+-- whether a row of bytes is so spelled
+unfoldable ends-so : List ℕ → Bool
+ends-so [] = true
+ends-so (b ∷ []) = letter b || eqb b 46
+ends-so (b ∷ (c ∷ bs)) = letter b && ends-so (c ∷ bs)
+
+unfoldable spelled : List ℕ → Bool
+spelled [] = false
+spelled (b ∷ bs) = letter b && ends-so bs
+
+abbrev Spelling : List ℕ → Type 0
+Spelling w = (ws : List ℕ) × (dot : Bool) × (w ≡ withDot dot ws) × (all letter ws ≡ true)
+
+dot-behind : (dot : Bool) (b : ℕ) (ws : List ℕ) → b ∷ withDot dot ws ≡ withDot dot (b ∷ ws)
+dot-behind true b ws = refl
+dot-behind false b ws = refl
+
+spelling-of : (w : List ℕ) → ends-so w ≡ true → Spelling w
+unfolding ends-so
+spelling-of [] h = ([], false, refl, refl)
+spelling-of (b ∷ []) h = go (letter b) refl h
+  where
+    go : (t : Bool) → letter b ≡ t → t || eqb b 46 ≡ true → Spelling (b ∷ [])
+    go true e k = (b ∷ [], false, refl, rw e)
+    go false e k = ([], true, ap (λ c. c ∷ []) (eqb-true b 46 k), refl)
+spelling-of (b ∷ (c ∷ bs)) h =
+    let t = halves (letter b) (ends-so (c ∷ bs)) h in
+    let (ws, dot, e, a) = spelling-of (c ∷ bs) (t .1) in
+    (b ∷ ws, dot, ap (λ l. b ∷ l) e ∙ dot-behind dot b ws, both (t .0) a)
+
+-- each of the table is one
+all-spelled : every (λ e. spelled (bytes (e .0))) months ≡ true
+unfolding months bytes spelled ends-so letter
+all-spelled = refl
+
+named-so : {k : ℕ} (w : List ℕ) → spelled w ≡ true → ((l : List ℕ) → Reads (named months w) l k l) → Month w k
+unfolding spelled
+named-so [] h f = let z : _≡_ {A = ℕ} 0 1 = cc in absurd (omega arith)
+named-so (b ∷ bs) h f =
+    let t = halves (letter b) (ends-so bs) h in
+    let (ws, dot, e, a) = spelling-of bs (t .1) in
+    record { word = b ∷ ws; dot = dot; spelling = ap (λ l. b ∷ l) e ∙ dot-behind dot b ws; long = omega arith; letters = both (t .0) a; found = f }
+
+pub month-names : {e : String × ℕ} → List·Memᴰ e months → Month (bytes (e .0)) (e .1)
+unfolding distinct months same bytes
+month-names {e} m = named-so (bytes (e .0)) (every-one (λ e. spelled (bytes (e .0))) all-spelled m) (table-read months refl m)
+
+-- ---- a name, read
+
+-- what may stand behind a name: behind one without a dot no letter and no dot
+abbrev pub Apart : {w : List ℕ} {k : ℕ} → Month w k → List ℕ → Type 0
+Apart a rest = a .dot ≡ false → (letter (head rest) ≡ false) × (eqb (head rest) 46 ≡ false)
+
+word-dot-read : (dot : Bool) (ws : List ℕ) {rest : List ℕ} → 0 < length ws → all letter ws ≡ true → (dot ≡ false → (letter (head rest) ≡ false) × (eqb (head rest) 46 ≡ false)) → Reads word-dot (withDot dot ws ++ rest) (withDot dot ws) rest
+unfolding word-dot letter
+word-dot-read true ws {rest} h a e = rw (append-assoc ws (46 ∷ []) rest) (word-read ws h a refl ⟨ _ ⟩ first _ (byte-read 46 ⟨ _ ⟩ nothing))
+word-dot-read false ws h a e = let t = e refl in word-read ws h a (t .0) ⟨ _ ⟩ (at-once _ (byte-else 46 (t .1)) or nothing)
+
+withDot-head : (dot : Bool) (ws rest : List ℕ) → 0 < length ws → all letter ws ≡ true → letter (head (withDot dot ws ++ rest)) ≡ true
+withDot-head true ws rest h a = rw (append-assoc ws (46 ∷ []) rest) (head-all letter ws _ h a)
+withDot-head false ws rest h a = head-all letter ws _ h a
+
+module _ {w : List ℕ} {k : ℕ} (a : Month w k) where
+  pub month-head : (rest : List ℕ) → letter (head (w ++ rest)) ≡ true
+  month-head rest = rw (a .spelling) (withDot-head (a .dot) (a .word) rest (a .long) (a .letters))
+
+  pub month-still : (rest : List ℕ) → Still (w ++ rest)
+  month-still rest = letter-still (month-head rest)
+
+  name-read : {rest : List ℕ} → Apart a rest → Reads word-dot (w ++ rest) w rest
+  name-read e = rw (a .spelling) (word-dot-read (a .dot) (a .word) (a .long) (a .letters) e)
+
+  -- behind space, as the readers ask for it
+  pub month-read : {l rest : List ℕ} → Spaces l (w ++ rest) → Apart a rest → Reads (spaced literal-month) l k rest
+  unfolding literal-month
+  month-read {rest = rest} s e = behind-space s (behind-space (still (month-still rest)) (name-read e) ⟨ named months ⟩ a .found rest)
+
+-- ---- hyphens and commas
+
+-- a hyphen with a digit behind it; none where another byte stands behind the space
+pub hyphen-read : {ds : List ℕ} (rest : List ℕ) → Number ds → Reads hyphen (45 ∷ (ds ++ rest)) tt (ds ++ rest)
+unfolding hyphen
+hyphen-read rest n = first _ (minus-read rest n)
+
+pub no-hyphen-read : {l m : List ℕ} → Spaces l m → eqb (head m) 45 ≡ false → Reads hyphen l tt l
+unfolding hyphen
+no-hyphen-read s h = not-behind-space s (byte-else 45 h) or nothing
+
+-- `,` is 44: a comma with a blank behind it
+pub comma-read : {l : List ℕ} (b : ℕ) (bs : List ℕ) {rest : List ℕ} → Spaces l (44 ∷ (b ∷ (bs ++ rest))) → all blank (b ∷ bs) ≡ true → blank (head rest) ≡ false → Reads comma l tt rest
+unfolding comma multispace1
+comma-read b bs s g h = first _ (behind-space s (byte-read 44 ⟨ _ ⟩ (some-read blank (b ∷ bs) (omega arith) g h ⟨ _ ⟩ nothing)))
+
+pub no-comma-read : {l m : List ℕ} → Spaces l m → eqb (head m) 44 ≡ false → Reads comma l tt l
+unfolding comma
+no-comma-read s h = not-behind-space s (at-once _ (byte-else 44 h)) or nothing
+
+-- ---- day month year, day month
+
+module _ {l ds x w y : List ℕ} {k : ℕ} (s : Spaces l (ds ++ x)) (n : Number ds) (small : decimal ds ≤ 255) (h : digit (head x) ≡ false) (g : Spaces x (w ++ y)) (a : Month w k) (e : Apart a y) where
+  pub day-month-read : {v : Date} {rest : List ℕ} → Reads (dated-behind hyphen k (decimal ds)) y v rest → Reads literal1 l v rest
+  unfolding literal1 letter
+  day-month-read r = small-read s n h small ⟨ _ ⟩ no-hyphen-read g (other letter (head (w ++ y)) 45 (month-head a y) refl) ⟨ _ ⟩ month-read a g e ⟨ (λ m. dated-behind hyphen m (decimal ds)) ⟩ r
+
+-- ---- month day year, month day
+
+module _ {l w x ds y : List ℕ} {k : ℕ} (s : Spaces l (w ++ x)) (a : Month w k) (e : Apart a x) (g : Spaces x (ds ++ y)) (n : Number ds) (small : decimal ds ≤ 255) (h : digit (head y) ≡ false) where
+  pub month-day-read : {v : Date} {rest : List ℕ} → Reads (dated-behind comma k (decimal ds)) y v rest → Reads literal2 l v rest
+  unfolding literal2
+  month-day-read r = month-read a s e ⟨ _ ⟩ small-read g n h small ⟨ _ ⟩ r
+
+-- ---- month-day-year
+
+pub month-day-year-read : {l w ds ys rest : List ℕ} {k : ℕ} → Spaces l (w ++ (45 ∷ (ds ++ (45 ∷ (ys ++ rest))))) → Month w k → Number ds → Year ys k (decimal ds) → digit (head rest) ≡ false → Reads literal3 l (inYear ys k (decimal ds)) rest
+unfolding literal3 letter digit
+month-day-year-read {l} {w} {ds} {ys} {rest} {k} s a n y h =
+    let small = day-small _ k (decimal ds) (y .there) in
+    month-read a s (λ z. (refl, refl)) ⟨ _ ⟩ minus-read _ n ⟨ _ ⟩ small-read (here _ n) n refl (omega arith) ⟨ _ ⟩ minus-read _ (y .number) ⟨ _ ⟩ year-str-read (here rest (y .number)) (y .number) h
+    ⟨ (λ w. with-year w k (decimal ds)) ⟩ with-year-read y
