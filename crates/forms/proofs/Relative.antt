@@ -70,7 +70,7 @@ no-text-ordinal : {l m : List ℕ} → Spaces l m → letter (head m) ≡ false 
 unfolding text-ordinal
 no-text-ordinal s h = at-once _ (not-behind-space s (word-else h))
 
-sign-no-letter : (negative : Bool) → letter (signOf negative) ≡ false
+pub sign-no-letter : (negative : Bool) → letter (signOf negative) ≡ false
 unfolding letter
 sign-no-letter true = refl
 sign-no-letter false = refl

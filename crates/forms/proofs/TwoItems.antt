@@ -28,11 +28,11 @@ use Rattle.items.specs.declared.Slot.{Slot}
 use Rattle.forms.proofs.Walk.{Reads, Fails, Spaces, first, said, not-behind-space}
 use Rattle.forms.proofs.Leaves.{head, Number, plain, tag-else, number-head, number-still, still, blanks, signOf, seconds-read, fractional-read}
 use Rattle.forms.proofs.Leaves.{signed as sign-still}
-use Rattle.forms.proofs.Relative.{Word, none-read, second-unit, signed-seconds-item}
+use Rattle.forms.proofs.Relative.{sign-no-letter, Word, none-read, second-unit, signed-seconds-item}
 use Rattle.forms.proofs.Times.{iso-read, second-read, correction-given, colon-correction-read, sign-no-digit}
 use Rattle.forms.proofs.Dates.{Year, inYear, iso1-read}
 use Rattle.forms.proofs.Combined.{no-meridiem, combined-item}
-use Rattle.forms.proofs.Items.{no-iso, no-date, no-time, relative-last}
+use Rattle.forms.proofs.Items.{no-iso, no-letter-month, no-date, no-time, relative-last}
 
 -- ---- a moment: its digits, what is asked of them, its text and its item
 
@@ -61,8 +61,6 @@ pub record InRange (r : Digits) : Type 0 where
   pub hour-small : decimal (r .hour) < 24
   pub minute-small : decimal (r .minute) < 60
   pub second-small : decimal (r .second) < 60
-  pub zone-hours-small : decimal (r .zone-hours) ≤ 24
-  pub zone-minutes-small : decimal (r .zone-minutes) ≤ 60
   pub zone : inRange (decimal (r .zone-hours)) (decimal (r .zone-minutes)) ≡ true
 
 -- `-` is 45, `:` is 58 and `.` is 46
@@ -102,9 +100,9 @@ module _ (r : Digits) (a : InRange r) {rest : List ℕ} (d : digit (head rest) �
   time-read : Reads iso (clockText r rest) (timeOf r) rest
   unfolding digit
   time-read =
-      iso-read (a .hour) (a .minute) (a .hour-small) (a .minute-small) refl
+      iso-read (still (number-still _ (a .hour))) (a .hour) (a .minute) (a .hour-small) (a .minute-small) refl
       (second-read (number-head _ (a .second)) (fractional-read false (a .second) (omega arith) (a .fraction) (sign-no-digit (r .negative))) (a .second-small))
-      (correction-given (colon-correction-read (r .negative) (a .zone-hours) (a .zone-minutes) d (a .zone) (omega arith) (omega arith)))
+      (correction-given (colon-correction-read (r .negative) (still (sign-still (r .negative) (number-head _ (a .zone-hours)))) (a .zone-hours) (a .zone-minutes) d (a .zone)))
 
   -- The moment is one item, where behind it stands no digit, and behind blanks neither am nor pm.
   pub moment-item : Fails starts-with-meridiem rest → Reads parse-item (momentText r rest) (momentItem r) rest
@@ -151,7 +149,7 @@ module _ (negative : Bool) {ns : List ℕ} (n : Number ns) (small : decimal ns <
       let s = shift-space in
       let k = sign-still negative (number-head (32 ∷ bytes "seconds") n) in
       let d = sign-no-digit negative in
-      relative-last seconds-item (no-iso s d refl) (no-date s d k (sign-fact letter refl refl negative)) (no-time s d)
+      relative-last (no-iso s d refl) (no-date s d (no-letter-month s k (sign-no-letter negative))) (no-time s d) seconds-item
 
 -- ---- the list of items
 
