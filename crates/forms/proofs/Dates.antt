@@ -106,16 +106,19 @@ unfolding digit
 ending-no-digit text-ends = refl
 ending-no-digit (blanks-end b bs g h) = blank-no-digit b (halves (blank b) (all blank bs) g .0)
 
-module _ (p : Reader (Unit {0})) {m d : ℕ} {l : List ℕ} where
-  -- a year behind what p reads
-  pub year-read : {x y ys rest : List ℕ} → Reads p l tt x → Spaces x (ys ++ y) → Ending y rest → Year ys m d → Reads (dated-behind p m d) l (inYear ys m d) rest
-  unfolding dated-behind ended-year ended dated
-  year-read {ys = ys} r s e a = first _ (r ⟨ _ ⟩ year-str-read s (a .number) (ending-no-digit e) ⟨ _ ⟩ ending-read e ⟨ _ ⟩ nothing) ⟨ (λ y. dated y m d) ⟩ with-year-read a
+-- what follows day and month behind what p reads: a year or none
+pub data YearOrNone (p : Reader (Unit {0})) (m d : ℕ) : List ℕ → Date → List ℕ → Type 0 where
+  with-it : {l x y ys rest : List ℕ} → Reads p l tt x → Spaces x (ys ++ y) → Ending y rest → Year ys m d → YearOrNone p m d l (inYear ys m d) rest
+  without-it : {l : List ℕ} → Fails (p >> ended) l → exists 2000 m d ≡ true → YearOrNone p m d l (dateOf Absent m d) l
 
-  -- no year with such an end
-  pub no-year-read : Fails (p >> ended) l → exists 2000 m d ≡ true → Reads (dated-behind p m d) l (dateOf Absent m d) l
-  unfolding dated-behind ended-year dated
-  no-year-read f h = (f or nothing) ⟨ (λ y. dated y m d) ⟩ without-year-read h
+pub year-or-none : {p : Reader (Unit {0})} {m d : ℕ} {l rest : List ℕ} {v : Date} → YearOrNone p m d l v rest → Reads (dated-behind p m d) l v rest
+unfolding dated-behind ended-year ended dated
+year-or-none {p} {m} {d} (with-it r s e a) = first _ (r ⟨ _ ⟩ year-str-read s (a .number) (ending-no-digit e) ⟨ _ ⟩ ending-read e ⟨ _ ⟩ nothing) ⟨ (λ y. dated y m d) ⟩ with-year-read a
+year-or-none {p} {m} {d} (without-it f h) = (f or nothing) ⟨ (λ y. dated y m d) ⟩ without-year-read h
+
+pub year-or-none-small : {p : Reader (Unit {0})} {m d : ℕ} {l rest : List ℕ} {v : Date} → YearOrNone p m d l v rest → (m ≤ 12) × (d ≤ 31)
+year-or-none-small {p} {m} {d} (with-it r s e a) = day-small _ m d (a .there)
+year-or-none-small {p} {m} {d} (without-it f h) = day-small 2000 m d h
 
 -- where there is no such year: no digit behind what p reads, or digits with another byte behind them than a blank
 not-ended : (b : ℕ) {bs : List ℕ} → blank b ≡ false → Fails blank-or-end (b ∷ bs)
@@ -157,6 +160,10 @@ whole-read : (w : List ℕ) {l : List ℕ} → decimal w ≤ 255 → Reads (pars
 unfolding parse-uint
 whole-read w h = verified (le-leb (decimal w) 255 h)
 
+all-joined : (p : ℕ → Bool) (k l : List ℕ) → all p k ≡ true → all p l ≡ true → all p (k ++ l) ≡ true
+all-joined p [] l f g = g
+all-joined p (b ∷ bs) l f g = let t = halves (p b) (all p bs) f in rw (t .0) (all-joined p bs l (t .1) g)
+
 -- year, month and day, the last two with two digits each
 module _ (ys ms ds : List ℕ) (two : length ms ≡ 2) (two′ : length ds ≡ 2) where
   row-length : length (ys ++ (ms ++ ds)) ≡ length ys + 4
@@ -178,9 +185,8 @@ module _ (ys ms ds : List ℕ) (two : length ms ≡ 2) (two′ : length ds ≡ 2
       let t = ap (take (length (ys ++ (ms ++ ds)) - 2)) (sym (append-assoc ys ms ds)) ∙ take-at (ys ++ ms) ds _ n in
       ap (drop (length (ys ++ (ms ++ ds)) - 4)) t ∙ drop-at ys ms (length (ys ++ (ms ++ ds)) - 4) (omega arith)
 
-  all-joined : (p : ℕ → Bool) (k l : List ℕ) → all p k ≡ true → all p l ≡ true → all p (k ++ l) ≡ true
-  all-joined p [] l f g = g
-  all-joined p (b ∷ bs) l f g = let t = halves (p b) (all p bs) f in rw (t .0) (all-joined p bs l (t .1) g)
+  pub row-number : Number ys → Number ms → Number ds → Number (ys ++ (ms ++ ds))
+  row-number y m d = let k = row-length in record { long = omega arith; digits = all-joined digit ys (ms ++ ds) (y .digits) (all-joined digit ms ds (m .digits) (d .digits)) }
 
   pub iso2-read : {rest : List ℕ} → Number ms → Number ds → Year ys (decimal ms) (decimal ds) → digit (head rest) ≡ false → Reads iso2 ((ys ++ (ms ++ ds)) ++ rest) (inYear ys (decimal ms) (decimal ds)) rest
   unfolding iso2 five-digits
@@ -188,11 +194,10 @@ module _ (ys ms ds : List ℕ) (two : length ms ≡ 2) (two′ : length ds ≡ 2
       let k = row-length in
       let long = a .number .long in
       let small = day-small (widened ys) (decimal ms) (decimal ds) (a .there) in
-      let row : Number (ys ++ (ms ++ ds)) = record { long = omega arith; digits = all-joined digit ys (ms ++ ds) (a .number .digits) (all-joined digit ms ds (m .digits) (d .digits)) } in
       let month : Reads (parse-uint 255 (slice (length (ys ++ (ms ++ ds)) - 4) (length (ys ++ (ms ++ ds)) - 2) (ys ++ (ms ++ ds)))) rest (decimal ms) rest = rw middle (whole-read ms (omega arith)) in
       let day : Reads (parse-uint 255 (drop (length (ys ++ (ms ++ ds)) - 2) (ys ++ (ms ++ ds)))) rest (decimal ds) rest = rw last-two (whole-read ds (omega arith)) in
       let year : Reads (with-year (take (length (ys ++ (ms ++ ds)) - 4) (ys ++ (ms ++ ds))) (decimal ms) (decimal ds)) rest (inYear ys (decimal ms) (decimal ds)) rest = rw front (with-year-read a) in
-      str-read row h ⟨ _ ⟩ verified (le-leb 5 (length (ys ++ (ms ++ ds))) (omega arith)) ⟨ _ ⟩ month ⟨ _ ⟩ day ⟨ _ ⟩ year
+      str-read (row-number (a .number) m d) h ⟨ _ ⟩ verified (le-leb 5 (length (ys ++ (ms ++ ds))) (omega arith)) ⟨ _ ⟩ month ⟨ _ ⟩ day ⟨ _ ⟩ year
 
 -- digits in a row that are no date
 whole-fails : {B : Type 0} (w l : List ℕ) (f : ℕ → Reader B) → Fails (f (decimal w)) l → Fails (parse-uint 255 w >>= f) l
@@ -306,10 +311,11 @@ month-day-read {l} {ws} {ns} rest s w n a h r =
 
 -- ---- day.month.year, day.month.
 
--- what a date with dots goes on with: a year with an end behind it, or none
-pub dotted-read : {l ds ms : List ℕ} (x : List ℕ) {v : Date} {rest : List ℕ} → Spaces l (ds ++ (46 ∷ (ms ++ (46 ∷ x)))) → Number ds → Number ms → decimal ds ≤ 255 → decimal ms ≤ 255 → Reads (dated-behind no-part (decimal ms) (decimal ds)) x v rest → Reads dotted l v rest
+pub dotted-read : {l ds ms x rest : List ℕ} {v : Date} → Spaces l (ds ++ (46 ∷ (ms ++ (46 ∷ x)))) → Number ds → Number ms → YearOrNone no-part (decimal ms) (decimal ds) x v rest → Reads dotted l v rest
 unfolding dotted digit
-dotted-read x s d m k k′ r = small-read s d refl k ⟨ _ ⟩ dot-read ⟨ _ ⟩ small-read (here (46 ∷ x) m) m refl k′ ⟨ _ ⟩ dot-read ⟨ _ ⟩ r
+dotted-read {ds = ds} {ms} {x} s d m y =
+    let small = year-or-none-small y in
+    small-read s d refl (omega arith) ⟨ _ ⟩ dot-read ⟨ _ ⟩ small-read (here (46 ∷ x) m) m refl (omega arith) ⟨ _ ⟩ dot-read ⟨ _ ⟩ year-or-none y
 
 pub no-part-read : {l : List ℕ} → Reads no-part l tt l
 unfolding no-part

@@ -66,6 +66,11 @@ blank-no-digit b = go (eqb b 32) refl
     go true e h = let z = eqb-true b 32 e in rw (lt-leb 48 b (omega arith))
     go false e h = let l = leb-true b 13 (halves (leb 9 b) (leb b 13) h .1) in rw (lt-leb 48 b (omega arith))
 
+-- what no blank passes and the byte behind blanks does not
+pub blanks-head : (p : ℕ → Bool) → ((b : ℕ) → blank b ≡ true → p b ≡ false) → (bs l : List ℕ) → all blank bs ≡ true → p (head l) ≡ false → p (head (bs ++ l)) ≡ false
+blanks-head p f [] l a h = h
+blanks-head p f (b ∷ bs) l a h = f b (halves (blank b) (all blank bs) a .0)
+
 head-at : (text : List ℕ) (at : ℕ) (l : List ℕ) → drop at text ≡ l → getD text at 0 ≡ head l
 head-at text at l e = rw (← add-zero at, ← getD-drop at text 0 0, e) (go l)
   where

@@ -8,6 +8,7 @@ pub mod Dates
 pub mod LiteralDates
 pub mod Combined
 pub mod Items
+pub mod DateItems
 pub mod TwoItems
 pub mod DatesForward
 pub mod RelativeForward

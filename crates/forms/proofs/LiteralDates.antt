@@ -2,7 +2,7 @@
 -- parts; a hyphen in front of a letter is space too. What may stand behind the date is a premise. Assumes nothing.
 use native.Mathlib.Omega.{arith}
 use borrow.Author.Tests.{eqb-true}
-use Prim.Native.Nat.{ℕ, _<_, _≤_}
+use Prim.Native.Nat.{ℕ, _<_}
 use Prim.Native.String.{String}
 use mathlib.Core.Path.{_≡_, refl, ap, _∙_}
 use mathlib.Core.List.{List, [], _∷_, _++_, append-assoc, List·Memᴰ}
@@ -14,9 +14,9 @@ use Rattle.primitive.specs.Primitive.{multispace1, spaced, decimal, same, named
 use Rattle.dates.specs.Date.{with-year, dated-behind, hyphen, comma, months, word-dot, literal-month, literal1, literal2, literal3}
 use Rattle.dates.specs.declared.date.Date.{Date}
 use Rattle.forms.proofs.Walk.{Reads, Spaces, _⟨_⟩_, at-once, first, _or_, nothing, behind-space, not-behind-space}
-use Rattle.forms.proofs.Leaves.{head, all, halves, both, head-all, other, Number, Still, some-read, byte-read, byte-else, word-read, letter-still, still}
+use Rattle.forms.proofs.Leaves.{head, all, halves, both, letter-no-digit, head-all, other, Number, Still, some-read, byte-read, byte-else, word-read, letter-still, still}
 use Rattle.forms.proofs.Tables.{every, every-one, distinct, table-read}
-use Rattle.forms.proofs.Dates.{Year, inYear, day-small, small-read, year-str-read, here, minus-read, with-year-read}
+use Rattle.forms.proofs.Dates.{Year, inYear, YearOrNone, year-or-none, year-or-none-small, day-small, small-read, year-str-read, here, minus-read, with-year-read}
 
 -- ---- the names of months
 
@@ -100,6 +100,9 @@ module _ {w : List ℕ} {k : ℕ} (a : Month w k) where
   pub month-head : (rest : List ℕ) → letter (head (w ++ rest)) ≡ true
   month-head rest = rw (a .spelling) (withDot-head (a .dot) (a .word) rest (a .long) (a .letters))
 
+  pub month-no-digit : (rest : List ℕ) → digit (head (w ++ rest)) ≡ false
+  month-no-digit rest = letter-no-digit _ (month-head rest)
+
   pub month-still : (rest : List ℕ) → Still (w ++ rest)
   month-still rest = letter-still (month-head rest)
 
@@ -133,17 +136,18 @@ no-comma-read s h = not-behind-space s (at-once _ (byte-else 44 h)) or nothing
 
 -- ---- day month year, day month
 
-module _ {l ds x w y : List ℕ} {k : ℕ} (s : Spaces l (ds ++ x)) (n : Number ds) (small : decimal ds ≤ 255) (h : digit (head x) ≡ false) (g : Spaces x (w ++ y)) (a : Month w k) (e : Apart a y) where
-  pub day-month-read : {v : Date} {rest : List ℕ} → Reads (dated-behind hyphen k (decimal ds)) y v rest → Reads literal1 l v rest
-  unfolding literal1 letter
-  day-month-read r = small-read s n h small ⟨ _ ⟩ no-hyphen-read g (other letter (head (w ++ y)) 45 (month-head a y) refl) ⟨ _ ⟩ month-read a g e ⟨ (λ m. dated-behind hyphen m (decimal ds)) ⟩ r
+pub day-month-read : {l ds x w y rest : List ℕ} {k : ℕ} {v : Date} → Spaces l (ds ++ x) → Number ds → digit (head x) ≡ false → Spaces x (w ++ y) → (a : Month w k) → Apart a y → YearOrNone hyphen k (decimal ds) y v rest → Reads literal1 l v rest
+unfolding literal1 letter
+day-month-read {ds = ds} {w = w} {y = y} s n h g a e r =
+    let small = year-or-none-small r in
+    small-read s n h (omega arith) ⟨ _ ⟩ no-hyphen-read g (other letter (head (w ++ y)) 45 (month-head a y) refl) ⟨ _ ⟩ month-read a g e
+    ⟨ (λ m. dated-behind hyphen m (decimal ds)) ⟩ year-or-none r
 
 -- ---- month day year, month day
 
-module _ {l w x ds y : List ℕ} {k : ℕ} (s : Spaces l (w ++ x)) (a : Month w k) (e : Apart a x) (g : Spaces x (ds ++ y)) (n : Number ds) (small : decimal ds ≤ 255) (h : digit (head y) ≡ false) where
-  pub month-day-read : {v : Date} {rest : List ℕ} → Reads (dated-behind comma k (decimal ds)) y v rest → Reads literal2 l v rest
-  unfolding literal2
-  month-day-read r = month-read a s e ⟨ _ ⟩ small-read g n h small ⟨ _ ⟩ r
+pub month-day-read : {l w x ds y rest : List ℕ} {k : ℕ} {v : Date} → Spaces l (w ++ x) → (a : Month w k) → Apart a x → Spaces x (ds ++ y) → Number ds → digit (head y) ≡ false → YearOrNone comma k (decimal ds) y v rest → Reads literal2 l v rest
+unfolding literal2
+month-day-read s a e g n h r = let small = year-or-none-small r in month-read a s e ⟨ _ ⟩ small-read g n h (omega arith) ⟨ _ ⟩ year-or-none r
 
 -- ---- month-day-year
 

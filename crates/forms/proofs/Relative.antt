@@ -19,19 +19,12 @@ use Rattle.primitive.specs.Epoch.{sec-and-nsec}
 use Rattle.primitive.specs.Ordinal.{signed, ordinals, text-ordinal, signed-number, number-ordinal, ordinal}
 use Rattle.primitive.specs.declared.epoch.SecAndNsec.{SecAndNsec}
 use Rattle.forms.proofs.Walk.{Reads, Fails, Spaces, _⟨_⟩_, _⟨_⟩!_, at-once, first, _or_, _nor_, nothing, verified, behind-space, not-behind-space}
-use Rattle.forms.proofs.Leaves.{head, all, halves, letter-no-digit, digit-no-letter, blank-no-digit, other, head-all, Number, tag-read, tag-else, word-read, word-else, number-read, number-else, number-head, digit-still, number-still, seconds-read, seconds-else, word-still, blanks, still, signOf, sign-here, no-sign-here, sign-read, sign-else}
+use Rattle.forms.proofs.Leaves.{head, all, blanks-head, letter-no-digit, digit-no-letter, blank-no-digit, other, head-all, Number, tag-read, tag-else, word-read, word-else, number-read, number-else, number-head, digit-still, number-still, seconds-read, seconds-else, word-still, blanks, still, signOf, sign-here, no-sign-here, sign-read, sign-else}
 use Rattle.forms.proofs.Leaves.{signed as sign-still}
 use Rattle.forms.proofs.Tables.{lacks, not-named, distinct, table-read}
 use Rattle.relative.specs.Relative.{direction, rounded, second-words, second-word, signed-seconds, seconds, days, units, stripped, in-unit, displaced, displacement, parse}
 use Rattle.relative.specs.declared.Relative.{Relative}
 use Rattle.relative.specs.declared.Relative.the-variants.{Years, Months, Days, Hours, Minutes}
-
--- ---- what stands behind blanks and a word's first letter: the first byte is a blank or a letter
-
-module _ (p : ℕ → Bool) (f : (b : ℕ) → blank b ≡ true → p b ≡ false) (g : (b : ℕ) → letter b ≡ true → p b ≡ false) where
-  gap-head : (bs w l : List ℕ) → all blank bs ≡ true → 0 < length w → all letter w ≡ true → p (head (bs ++ (w ++ l))) ≡ false
-  gap-head [] w l a h k = g _ (head-all letter w l h k)
-  gap-head (b ∷ bs) w l a h k = f b (halves (blank b) (all blank bs) a .0)
 
 -- ---- directions
 
@@ -110,7 +103,7 @@ module _ {w l rest : List ℕ} (word : Word w l) {ago : Bool} (d : Reads directi
     gap = blanks bs b (word-still w l (word .long) (word .letters))
 
     no-digit-next : digit (head (bs ++ (w ++ l))) ≡ false
-    no-digit-next = gap-head digit blank-no-digit letter-no-digit bs w l b (word .long) (word .letters)
+    no-digit-next = blanks-head digit blank-no-digit bs (w ++ l) b (letter-no-digit _ (head-all letter w l (word .long) (word .letters)))
 
     displaced-read : (n : ℤ) {v : Relative} → ((m : List ℕ) → Reads (in-unit (if ago (negℤ n) n) w) m v m) → Reads (displaced n) (bs ++ (w ++ l)) v rest
     unfolding displaced
@@ -185,7 +178,7 @@ module _ {w l rest : List ℕ} (word : Word w l) {ago : Bool} (d : Reads directi
       no-second-word = behind-space gap (word-read w (word .long) (word .letters) (word .ends)) ⟨ named second-words ⟩! t l
 
       no-point : (c : ℕ) → blank c ≡ false → letter c ≡ false → eqb (head (bs ++ (w ++ l))) c ≡ false
-      no-point c f g = gap-head (λ b. eqb b c) (λ b h. other blank b c h f) (λ b h. other letter b c h g) bs w l b (word .long) (word .letters)
+      no-point c f g = blanks-head (λ b. eqb b c) (λ b h. other blank b c h f) bs (w ++ l) b (other letter _ c (head-all letter w l (word .long) (word .letters)) g)
 
       module _ (as′ : List ℕ) (a : all blank as′ ≡ true) {ds : List ℕ} (n : Number ds) (small : decimal ds ≤ 2147483647) where
         no-signed-seconds : (negative : Bool) → Fails (signed-seconds negative) (as′ ++ (ds ++ (bs ++ (w ++ l))))
