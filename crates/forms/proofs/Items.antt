@@ -50,7 +50,7 @@ module _ {l rest : List ℕ} (i : Fails iso-date l) where
 -- ---- where no digit stands in front
 
 module _ {l m : List ℕ} (s : Spaces l m) (d : digit (head m) ≡ false) where
-  no-number : (max : ℕ) → Fails (spaced (dec-uint max)) l
+  pub no-number : (max : ℕ) → Fails (spaced (dec-uint max)) l
   no-number max = not-behind-space s (number-else max d)
 
   no-year : Fails year-str l

@@ -207,7 +207,7 @@ no-digit-else {l} h = record { fails = λ text at e. rw (head-at text at l e, h)
 digit-no-blank : (l : List ℕ) → digit (head l) ≡ true → blank (head l) ≡ false
 digit-no-blank l h = not-true _ (halves _ _ (quiet-digit (head l) h) .0)
 
-still-no-blank : {l : List ℕ} → Still l → blank (head l) ≡ false
+pub still-no-blank : {l : List ℕ} → Still l → blank (head l) ≡ false
 unfolding blank
 still-no-blank (plain h) = not-true _ (halves _ _ h .0)
 still-no-blank (plus h) = refl

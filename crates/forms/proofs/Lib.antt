@@ -6,8 +6,8 @@ pub mod Relative
 pub mod Times
 pub mod Dates
 pub mod LiteralDates
-pub mod Combined
 pub mod Items
+pub mod Combined
 pub mod DateItems
 pub mod TwoItems
 pub mod DatesForward
