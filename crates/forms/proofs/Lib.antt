@@ -9,6 +9,7 @@ pub mod LiteralDates
 pub mod Items
 pub mod Combined
 pub mod DateItems
+pub mod TimeItems
 pub mod TwoItems
 pub mod DatesForward
 pub mod RelativeForward

@@ -13,9 +13,9 @@ use Rattle.primitive.specs.Text.{bytes, blank, digit, letter}
 use Rattle.primitive.specs.Primitive.{multispace1, spaced, decimal, same, named}
 use Rattle.dates.specs.Date.{with-year, dated-behind, hyphen, comma, months, word-dot, literal-month, literal1, literal2, literal3}
 use Rattle.dates.specs.declared.date.Date.{Date}
-use Rattle.forms.proofs.Walk.{Reads, Spaces, _⟨_⟩_, at-once, first, _or_, nothing, behind-space, not-behind-space}
+use Rattle.forms.proofs.Walk.{Reads, Fails, Spaces, _⟨_⟩_, _⟨_⟩!_, at-once, first, _or_, nothing, behind-space, not-behind-space}
 use Rattle.forms.proofs.Leaves.{head, all, halves, both, letter-no-digit, head-all, other, Number, Still, some-read, byte-read, byte-else, word-read, letter-still, still}
-use Rattle.forms.proofs.Tables.{every, every-one, distinct, table-read}
+use Rattle.forms.proofs.Tables.{every, every-one, lacks, not-named, distinct, table-read}
 use Rattle.forms.proofs.Dates.{Year, inYear, YearOrNone, year-or-none, year-or-none-small, day-small, small-read, year-str-read, here, minus-read, with-year-read}
 
 -- ---- the names of months
@@ -113,6 +113,36 @@ module _ {w : List ℕ} {k : ℕ} (a : Month w k) where
   pub month-read : {l rest : List ℕ} → Spaces l (w ++ rest) → Apart a rest → Reads (spaced literal-month) l k rest
   unfolding literal-month
   month-read {rest = rest} s e = behind-space s (behind-space (still (month-still rest)) (name-read e) ⟨ named months ⟩ a .found rest)
+
+-- ---- no name
+
+-- a word that the table has neither with a dot nor without one
+module _ (ws rest : List ℕ) {l : List ℕ} (s : Spaces l (ws ++ rest)) (h : 0 < length ws) (a : all letter ws ≡ true) (e : letter (head rest) ≡ false) (plainly : lacks months ws ≡ true) (dotted : lacks months (ws ++ (46 ∷ [])) ≡ true) where
+  no-name-at : (t : Bool) (r : List ℕ) → rest ≡ r → eqb (head r) 46 ≡ t → Fails literal-month l
+  unfolding literal-month
+  no-name-at false r z f = behind-space s (word-dot-read false ws h a (λ k. (e, rw z f))) ⟨ named months ⟩! not-named months ws plainly rest
+  no-name-at true [] z f = let y : _≡_ {A = ℕ} 0 1 = cc in absurd (omega arith)
+  no-name-at true (c ∷ r) z f =
+      let d : rest ≡ 46 ∷ r = rw (← eqb-true c 46 f) z in
+      let k : Spaces l ((ws ++ (46 ∷ [])) ++ r) = rw (append-assoc ws (46 ∷ []) r, ← d) s in
+      let q : true ≡ false → (letter (head r) ≡ false) × (eqb (head r) 46 ≡ false) = λ w. let y : _≡_ {A = ℕ} 0 1 = cc in absurd (omega arith) in
+      behind-space k (word-dot-read true ws h a q) ⟨ named months ⟩! not-named months (ws ++ (46 ∷ [])) dotted r
+
+  pub no-name : Fails literal-month l
+  no-name = no-name-at (eqb (head rest) 46) rest refl refl
+
+-- the letters in front of a text, and what is left
+abbrev pub Letters : List ℕ → Type 0
+Letters l = (ws : List ℕ) × (r : List ℕ) × (l ≡ ws ++ r) × (all letter ws ≡ true) × (letter (head r) ≡ false)
+
+pub letters-in : (l : List ℕ) → Letters l
+unfolding letter
+letters-in [] = ([], [], refl, refl, refl)
+letters-in (b ∷ bs) = go (letter b) refl (letters-in bs)
+  where
+    go : (t : Bool) → letter b ≡ t → Letters bs → Letters (b ∷ bs)
+    go true e (ws, r, z, a, f) = (b ∷ ws, r, ap (λ l. b ∷ l) z, both e a, f)
+    go false e w = ([], b ∷ bs, refl, refl, e)
 
 -- ---- hyphens and commas
 
