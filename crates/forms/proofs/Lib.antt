@@ -10,6 +10,7 @@ pub mod Items
 pub mod Combined
 pub mod DateItems
 pub mod TimeItems
+pub mod RelativeItems
 pub mod TwoItems
 pub mod DatesForward
 pub mod RelativeForward

@@ -24,7 +24,7 @@ use Rattle.forms.proofs.Leaves.{signed as sign-still}
 use Rattle.forms.proofs.Tables.{lacks, not-named, distinct, table-read}
 use Rattle.relative.specs.Relative.{direction, rounded, second-words, second-word, signed-seconds, seconds, days, units, stripped, in-unit, displaced, displacement, parse}
 use Rattle.relative.specs.declared.Relative.{Relative}
-use Rattle.relative.specs.declared.Relative.the-variants.{Years, Months, Days, Hours, Minutes}
+use Rattle.relative.specs.declared.Relative.the-variants.{Years, Months, Days, Hours, Minutes, Seconds}
 
 -- ---- directions
 
@@ -227,78 +227,94 @@ unfolding second-words named same bytes
 sec-unit true m = nothing
 sec-unit false m = nothing
 
--- ---- every unit but seconds, in every form
+-- ---- every unit in every form
 
 -- a word for a unit: what it makes of a number n, where n is one that it can be given
 pub record UnitWord (w : List ℕ) (f : ℤ → Relative) (given : ℤ → Type 0) : Type 0 where
   pub long : 0 < length w
   pub letters : all letter w ≡ true
-  pub no-seconds : lacks second-words w ≡ true
   pub no-ordinal : lacks ordinals w ≡ true
   pub unit : (n : ℤ) → given n → (m : List ℕ) → Reads (in-unit n w) m (f n) m
 
-pub year-word : (s : Bool) → UnitWord (bytes "year" ++ plural s) Years (λ n. Unit {0})
-unfolding lacks second-words ordinals in-unit units named same stripped bytes letter
-year-word true = record { long = omega arith; letters = refl; no-seconds = refl; no-ordinal = refl; unit = λ n g m. nothing }
-year-word false = record { long = omega arith; letters = refl; no-seconds = refl; no-ordinal = refl; unit = λ n g m. nothing }
+-- one that is no word for seconds, which are read otherwise behind a number
+pub record LongUnit (w : List ℕ) (f : ℤ → Relative) (given : ℤ → Type 0) : Type 0 where
+  pub word : UnitWord w f given
+  pub no-seconds : lacks second-words w ≡ true
 
-pub month-word : (s : Bool) → UnitWord (bytes "month" ++ plural s) Months (λ n. Unit {0})
+pub year-word : (s : Bool) → LongUnit (bytes "year" ++ plural s) Years (λ n. Unit {0})
 unfolding lacks second-words ordinals in-unit units named same stripped bytes letter
-month-word true = record { long = omega arith; letters = refl; no-seconds = refl; no-ordinal = refl; unit = λ n g m. nothing }
-month-word false = record { long = omega arith; letters = refl; no-seconds = refl; no-ordinal = refl; unit = λ n g m. nothing }
+year-word true = record { word = record { long = omega arith; letters = refl; no-ordinal = refl; unit = λ n g m. nothing }; no-seconds = refl }
+year-word false = record { word = record { long = omega arith; letters = refl; no-ordinal = refl; unit = λ n g m. nothing }; no-seconds = refl }
 
-pub day-word : (s : Bool) → UnitWord (bytes "day" ++ plural s) Days (λ n. Unit {0})
+pub month-word : (s : Bool) → LongUnit (bytes "month" ++ plural s) Months (λ n. Unit {0})
 unfolding lacks second-words ordinals in-unit units named same stripped bytes letter
-day-word true = record { long = omega arith; letters = refl; no-seconds = refl; no-ordinal = refl; unit = λ n g m. nothing }
-day-word false = record { long = omega arith; letters = refl; no-seconds = refl; no-ordinal = refl; unit = λ n g m. nothing }
+month-word true = record { word = record { long = omega arith; letters = refl; no-ordinal = refl; unit = λ n g m. nothing }; no-seconds = refl }
+month-word false = record { word = record { long = omega arith; letters = refl; no-ordinal = refl; unit = λ n g m. nothing }; no-seconds = refl }
 
-pub hour-word : (s : Bool) → UnitWord (bytes "hour" ++ plural s) Hours (λ n. Unit {0})
+pub day-word : (s : Bool) → LongUnit (bytes "day" ++ plural s) Days (λ n. Unit {0})
 unfolding lacks second-words ordinals in-unit units named same stripped bytes letter
-hour-word true = record { long = omega arith; letters = refl; no-seconds = refl; no-ordinal = refl; unit = λ n g m. nothing }
-hour-word false = record { long = omega arith; letters = refl; no-seconds = refl; no-ordinal = refl; unit = λ n g m. nothing }
+day-word true = record { word = record { long = omega arith; letters = refl; no-ordinal = refl; unit = λ n g m. nothing }; no-seconds = refl }
+day-word false = record { word = record { long = omega arith; letters = refl; no-ordinal = refl; unit = λ n g m. nothing }; no-seconds = refl }
 
-pub minute-word : (s : Bool) → UnitWord (bytes "minute" ++ plural s) Minutes (λ n. Unit {0})
+pub hour-word : (s : Bool) → LongUnit (bytes "hour" ++ plural s) Hours (λ n. Unit {0})
 unfolding lacks second-words ordinals in-unit units named same stripped bytes letter
-minute-word true = record { long = omega arith; letters = refl; no-seconds = refl; no-ordinal = refl; unit = λ n g m. nothing }
-minute-word false = record { long = omega arith; letters = refl; no-seconds = refl; no-ordinal = refl; unit = λ n g m. nothing }
+hour-word true = record { word = record { long = omega arith; letters = refl; no-ordinal = refl; unit = λ n g m. nothing }; no-seconds = refl }
+hour-word false = record { word = record { long = omega arith; letters = refl; no-ordinal = refl; unit = λ n g m. nothing }; no-seconds = refl }
 
-pub min-word : (s : Bool) → UnitWord (bytes "min" ++ plural s) Minutes (λ n. Unit {0})
+pub minute-word : (s : Bool) → LongUnit (bytes "minute" ++ plural s) Minutes (λ n. Unit {0})
 unfolding lacks second-words ordinals in-unit units named same stripped bytes letter
-min-word true = record { long = omega arith; letters = refl; no-seconds = refl; no-ordinal = refl; unit = λ n g m. nothing }
-min-word false = record { long = omega arith; letters = refl; no-seconds = refl; no-ordinal = refl; unit = λ n g m. nothing }
+minute-word true = record { word = record { long = omega arith; letters = refl; no-ordinal = refl; unit = λ n g m. nothing }; no-seconds = refl }
+minute-word false = record { word = record { long = omega arith; letters = refl; no-ordinal = refl; unit = λ n g m. nothing }; no-seconds = refl }
+
+pub min-word : (s : Bool) → LongUnit (bytes "min" ++ plural s) Minutes (λ n. Unit {0})
+unfolding lacks second-words ordinals in-unit units named same stripped bytes letter
+min-word true = record { word = record { long = omega arith; letters = refl; no-ordinal = refl; unit = λ n g m. nothing }; no-seconds = refl }
+min-word false = record { word = record { long = omega arith; letters = refl; no-ordinal = refl; unit = λ n g m. nothing }; no-seconds = refl }
 
 -- weeks and fortnights, where an i32 holds their days
-pub week-word : (s : Bool) → UnitWord (bytes "week" ++ plural s) (λ n. Days (n *ℤ pos 7)) (λ n. mag (n *ℤ pos 7) < 2 ^ 31)
+pub week-word : (s : Bool) → LongUnit (bytes "week" ++ plural s) (λ n. Days (n *ℤ pos 7)) (λ n. mag (n *ℤ pos 7) < 2 ^ 31)
 unfolding lacks second-words ordinals in-unit units named same stripped bytes letter days
-week-word true = record { long = omega arith; letters = refl; no-seconds = refl; no-ordinal = refl; unit = λ n g m. verified (lt-ltb (mag (n *ℤ pos 7)) (2 ^ 31) g) }
-week-word false = record { long = omega arith; letters = refl; no-seconds = refl; no-ordinal = refl; unit = λ n g m. verified (lt-ltb (mag (n *ℤ pos 7)) (2 ^ 31) g) }
+week-word true = record { word = record { long = omega arith; letters = refl; no-ordinal = refl; unit = λ n g m. verified (lt-ltb (mag (n *ℤ pos 7)) (2 ^ 31) g) }; no-seconds = refl }
+week-word false = record { word = record { long = omega arith; letters = refl; no-ordinal = refl; unit = λ n g m. verified (lt-ltb (mag (n *ℤ pos 7)) (2 ^ 31) g) }; no-seconds = refl }
 
-pub fortnight-word : (s : Bool) → UnitWord (bytes "fortnight" ++ plural s) (λ n. Days (n *ℤ pos 14)) (λ n. mag (n *ℤ pos 14) < 2 ^ 31)
+pub fortnight-word : (s : Bool) → LongUnit (bytes "fortnight" ++ plural s) (λ n. Days (n *ℤ pos 14)) (λ n. mag (n *ℤ pos 14) < 2 ^ 31)
 unfolding lacks second-words ordinals in-unit units named same stripped bytes letter days
-fortnight-word true = record { long = omega arith; letters = refl; no-seconds = refl; no-ordinal = refl; unit = λ n g m. verified (lt-ltb (mag (n *ℤ pos 14)) (2 ^ 31) g) }
-fortnight-word false = record { long = omega arith; letters = refl; no-seconds = refl; no-ordinal = refl; unit = λ n g m. verified (lt-ltb (mag (n *ℤ pos 14)) (2 ^ 31) g) }
+fortnight-word true = record { word = record { long = omega arith; letters = refl; no-ordinal = refl; unit = λ n g m. verified (lt-ltb (mag (n *ℤ pos 14)) (2 ^ 31) g) }; no-seconds = refl }
+fortnight-word false = record { word = record { long = omega arith; letters = refl; no-ordinal = refl; unit = λ n g m. verified (lt-ltb (mag (n *ℤ pos 14)) (2 ^ 31) g) }; no-seconds = refl }
+
+pub second-unit-word : (s : Bool) → UnitWord (bytes "second" ++ plural s) (λ n. Seconds n 0) (λ n. Unit {0})
+unfolding lacks ordinals in-unit units named same stripped bytes letter
+second-unit-word true = record { long = omega arith; letters = refl; no-ordinal = refl; unit = λ n g m. nothing }
+second-unit-word false = record { long = omega arith; letters = refl; no-ordinal = refl; unit = λ n g m. nothing }
+
+pub sec-unit-word : (s : Bool) → UnitWord (bytes "sec" ++ plural s) (λ n. Seconds n 0) (λ n. Unit {0})
+unfolding lacks ordinals in-unit units named same stripped bytes letter
+sec-unit-word true = record { long = omega arith; letters = refl; no-ordinal = refl; unit = λ n g m. nothing }
+sec-unit-word false = record { long = omega arith; letters = refl; no-ordinal = refl; unit = λ n g m. nothing }
 
 -- the number with its direction
 abbrev pub turned : Bool → ℤ → ℤ
 turned ago n = if ago (negℤ n) n
 
--- `3 years`, `-3 years ago`, `year`, `last year ago`: blanks, a number, blanks, a unit, a direction
-module _ {w : List ℕ} {f : ℤ → Relative} {given : ℤ → Type 0} (u : UnitWord w f given) {l rest : List ℕ} {ago : Bool} (d : Reads direction l ago rest) (ends : letter (head l) ≡ false) (bs : List ℕ) (b : all blank bs ≡ true) where
-  the-word : Word w l
-  the-word = record { long = u .long; letters = u .letters; ends = ends }
+-- `year`, `last year ago`, `second`: a unit alone or behind an ordinal word, and a direction
+module _ {w : List ℕ} {f : ℤ → Relative} {given : ℤ → Type 0} {l rest : List ℕ} {ago : Bool} (d : Reads direction l ago rest) (ends : letter (head l) ≡ false) (bs : List ℕ) (b : all blank bs ≡ true) where
+  the-word : UnitWord w f given → Word w l
+  the-word u = record { long = u .long; letters = u .letters; ends = ends }
+
+  pub bare-form : UnitWord w f given → given (turned ago (pos 1)) → Reads parse (bs ++ (w ++ l)) (f (turned ago (pos 1))) rest
+  bare-form u g = bare-item (the-word u) d bs b (not-named ordinals w (u .no-ordinal)) (u .unit _ g)
 
   module _ (as′ : List ℕ) (a : all blank as′ ≡ true) where
-    pub unsigned-form : {ds : List ℕ} → Number ds → decimal ds ≤ 2147483647 → given (turned ago (pos (decimal ds))) → Reads parse (as′ ++ (ds ++ (bs ++ (w ++ l)))) (f (turned ago (pos (decimal ds)))) rest
-    unsigned-form n small g = unsigned-item the-word d bs b (not-named second-words w (u .no-seconds)) as′ a n small (u .unit _ g)
+    pub ordinal-form : UnitWord w f given → (o : List ℕ) (n : ℤ) → Word o (bs ++ (w ++ l)) → ((m : List ℕ) → Reads (named ordinals o) m n m) → given (turned ago n) → Reads parse (as′ ++ (o ++ (bs ++ (w ++ l)))) (f (turned ago n)) rest
+    ordinal-form u o n k t g = ordinal-item (the-word u) d bs b as′ a o n k t (u .unit _ g)
 
-    pub signed-form : {ds : List ℕ} → Number ds → decimal ds ≤ 2147483647 → (negative : Bool) → given (turned ago (signed negative (decimal ds))) → Reads parse (as′ ++ (signOf negative ∷ (ds ++ (bs ++ (w ++ l))))) (f (turned ago (signed negative (decimal ds)))) rest
-    signed-form n small negative g = signed-item the-word d bs b (not-named second-words w (u .no-seconds)) as′ a n small negative (u .unit _ g)
+    -- `3 years`, `-3 years ago`: a number, blanks, a unit that is no second, and a direction
+    module _ (u : LongUnit w f given) {ds : List ℕ} (n : Number ds) (small : decimal ds ≤ 2147483647) where
+      pub unsigned-form : given (turned ago (pos (decimal ds))) → Reads parse (as′ ++ (ds ++ (bs ++ (w ++ l)))) (f (turned ago (pos (decimal ds)))) rest
+      unsigned-form g = unsigned-item (the-word (u .word)) d bs b (not-named second-words w (u .no-seconds)) as′ a n small (u .word .unit _ g)
 
-    pub ordinal-form : (o : List ℕ) (n : ℤ) → Word o (bs ++ (w ++ l)) → ((m : List ℕ) → Reads (named ordinals o) m n m) → given (turned ago n) → Reads parse (as′ ++ (o ++ (bs ++ (w ++ l)))) (f (turned ago n)) rest
-    ordinal-form o n k t g = ordinal-item the-word d bs b as′ a o n k t (u .unit _ g)
-
-  pub bare-form : given (turned ago (pos 1)) → Reads parse (bs ++ (w ++ l)) (f (turned ago (pos 1))) rest
-  bare-form g = bare-item the-word d bs b (not-named ordinals w (u .no-ordinal)) (u .unit _ g)
+      pub signed-form : (negative : Bool) → given (turned ago (signed negative (decimal ds))) → Reads parse (as′ ++ (signOf negative ∷ (ds ++ (bs ++ (w ++ l))))) (f (turned ago (signed negative (decimal ds)))) rest
+      signed-form negative g = signed-item (the-word (u .word)) d bs b (not-named second-words w (u .no-seconds)) as′ a n small negative (u .word .unit _ g)
 
 -- 29.1: the ordinal words, each of the table
 pub ordinal-words : {e : String × ℤ} → List·Memᴰ e ordinals → (m : List ℕ) → Reads (named ordinals (bytes (e .0))) m (e .1) m

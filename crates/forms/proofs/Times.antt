@@ -14,7 +14,7 @@ use Rattle.primitive.specs.Primitive.{spaced, colon, decimal, parse-uint, dec-u
 use Rattle.primitive.specs.Epoch.{fraction, sec-and-nsec}
 use Rattle.primitive.specs.declared.epoch.SecAndNsec.{SecAndNsec}
 use Rattle.forms.proofs.Walk.{Reads, Fails, Spaces, _⟨_⟩_, _⟨_⟩!_, at-once, first, _or_, _nor_, nothing, verified, not-verified, behind-space, not-behind-space}
-use Rattle.forms.proofs.Leaves.{head, all, halves, Number, plain, tag-read, tag-else, number-read, number-still, str-read, blanks, still, digit-still, signOf, sign-read, sign-else, colon-read, fraction-else}
+use Rattle.forms.proofs.Leaves.{head, all, halves, Number, plain, tag-read, tag-else, other-start, number-read, number-still, str-read, blanks, still, digit-still, signOf, sign-read, sign-else, colon-read, fraction-else}
 use Rattle.relative.specs.Relative.{parse as relative}
 use Rattle.times.proofs.Chain.{nothing-left}
 use Rattle.times.specs.Offset.{certain, unless, inRange, offset-of, timezone-offset-colon, digits-offset, timezone-offset-colonless, any-offset, signed-fraction, time-zone-correction, timezone-offset}
@@ -219,6 +219,14 @@ module _ {x hs ms l m′ rest : List ℕ} (i : Spaces x (hs ++ (58 ∷ (ms ++ l)
   clock-item a = no-half-day a or iso-read
 
 -- ---- 12 hours
+
+-- neither am nor pm where neither an `a` nor a `p` stands behind the space
+pub meridiem-else : {l m : List ℕ} → Spaces l m → eqb (head m) 97 ≡ false → eqb (head m) 112 ≡ false → Fails meridiem l
+unfolding meridiem bytes
+meridiem-else {m = m} s a p =
+    ((at-once _ (not-behind-space s (tag-else _ (other-start 97 _ m a))) nor at-once _ (not-behind-space s (tag-else _ (other-start 97 _ m a))))
+    nor at-once _ (not-behind-space s (tag-else _ (other-start 112 _ m p))))
+    nor at-once _ (not-behind-space s (tag-else _ (other-start 112 _ m p)))
 
 -- the four spellings, behind blanks or none
 module _ (bs : List ℕ) (b : all blank bs ≡ true) {rest : List ℕ} where
