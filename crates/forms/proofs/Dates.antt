@@ -273,7 +273,7 @@ small-no-date w h = go (leb 5 (length w)) refl
 
 -- ---- month/day/year, month/day; year/month/day
 
-no-slash-part : {l : List ℕ} → Fails (spaced (byte 47)) l → Reads slash-part l unwritten l
+pub no-slash-part : {l : List ℕ} → Fails (spaced (byte 47)) l → Reads slash-part l unwritten l
 unfolding slash-part
 no-slash-part a = at-once _ a or nothing
 

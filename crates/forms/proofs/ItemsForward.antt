@@ -1,8 +1,13 @@
 -- Where an item ends: never before the place asked, and within the text where that place is. Assumes nothing.
+use Prim.Native.Nat.{ℕ, _-_, _≤_}
 use mathlib.Core.Path.{_≡_}
+use mathlib.Core.List.{List}
+use lib.ListN.{length, drop}
 use Rattle.primitive.specs.Answer.{Answer, Reader, matched, none, stop, pure}
 use Rattle.primitive.specs.Primitive.{space}
 use Rattle.primitive.proofs.Forward.{Ends, Forward, none-ends, then-forward, next-forward, or-forward, pure-forward, tag-forward, spaced-forward, space-onward}
+use Rattle.items.specs.declared.Item.{Item}
+use Rattle.forms.proofs.Walk.{Reads, place-behind}
 use Rattle.forms.proofs.DatesForward.{iso1-forward, iso2-forward, parse-non-iso-forward}
 use Rattle.dates.specs.declared.date.Date.{Date}
 use Rattle.forms.proofs.TimesForward.{unless-forward, iso-forward}
@@ -56,3 +61,7 @@ other-item-forward =
 pub parse-item-forward : Forward parse-item
 unfolding parse-item
 parse-item-forward = or-forward _ _ iso-item-forward other-item-forward
+
+-- Where the text goes on with an item, the next place is behind it: all that is left is what the item leaves.
+pub next-place : {l rest : List ℕ} {v : Item} → Reads parse-item l v rest → (text : List ℕ) (at : ℕ) → at ≤ length text → drop at text ≡ l → parse-item text at ≡ matched v (length text - length rest)
+next-place = place-behind parse-item-forward

@@ -12,6 +12,7 @@ pub mod DateItems
 pub mod TimeItems
 pub mod RelativeItems
 pub mod TwoItems
+pub mod Examples
 pub mod DatesForward
 pub mod RelativeForward
 pub mod TimesForward

@@ -19,7 +19,7 @@ use Rattle.primitive.specs.Epoch.{sec-and-nsec}
 use Rattle.primitive.specs.Ordinal.{signed, ordinals, text-ordinal, signed-number, number-ordinal, ordinal}
 use Rattle.primitive.specs.declared.epoch.SecAndNsec.{SecAndNsec}
 use Rattle.forms.proofs.Walk.{Reads, Fails, Spaces, _⟨_⟩_, _⟨_⟩!_, at-once, first, _or_, _nor_, nothing, verified, behind-space, not-behind-space}
-use Rattle.forms.proofs.Leaves.{head, all, blanks-head, letter-no-digit, digit-no-letter, blank-no-digit, other, head-all, Number, tag-read, tag-else, word-read, word-else, number-read, number-else, number-head, digit-still, number-still, seconds-read, seconds-else, word-still, blanks, still, signOf, sign-here, no-sign-here, sign-read, sign-else}
+use Rattle.forms.proofs.Leaves.{head, all, blanks-head, letter-no-digit, digit-no-letter, blank-no-digit, other, head-all, Number, tag-read, tag-else, other-start, word-read, word-else, number-read, number-else, number-head, digit-still, number-still, seconds-read, seconds-else, word-still, blanks, still, signOf, sign-here, no-sign-here, sign-read, sign-else}
 use Rattle.forms.proofs.Leaves.{signed as sign-still}
 use Rattle.forms.proofs.Tables.{lacks, not-named, distinct, table-read}
 use Rattle.relative.specs.Relative.{direction, rounded, second-words, second-word, signed-seconds, seconds, days, units, stripped, in-unit, displaced, displacement, parse}
@@ -43,6 +43,11 @@ hence-read bs {rest} b =
 pub none-read : {rest : List ℕ} → Fails (spaced (quoted "ago")) rest → Fails (spaced (quoted "hence")) rest → Reads direction rest false rest
 unfolding direction
 none-read a h = (at-once _ a nor at-once _ h) or nothing
+
+-- nor where neither an `a` nor an `h` stands behind the space
+pub no-direction : {l m : List ℕ} → Spaces l m → eqb (head m) 97 ≡ false → eqb (head m) 104 ≡ false → Reads direction l false l
+unfolding bytes
+no-direction {m = m} s a h = none-read (not-behind-space s (tag-else _ (other-start 97 _ m a))) (not-behind-space s (tag-else _ (other-start 104 _ m h)))
 
 -- ---- ordinals
 

@@ -43,10 +43,10 @@ pub record OtherWord (w : List ℕ) : Type 0 where
   pub no-a : eqb (head w) 97 ≡ false
   pub no-p : eqb (head w) 112 ≡ false
 
-unfoldable tested : List ℕ → Bool
+unfoldable pub tested : List ℕ → Bool
 tested w = (ltb 0 (length w) && all letter w) && ((lacks months w && lacks months (w ++ (46 ∷ []))) && (not (eqb (head w) 97) && not (eqb (head w) 112)))
 
-other-word : (w : List ℕ) → tested w ≡ true → OtherWord w
+pub other-word : (w : List ℕ) → tested w ≡ true → OtherWord w
 unfolding tested
 other-word w h =
     let (f, g) = halves (ltb 0 (length w) && all letter w) _ h in

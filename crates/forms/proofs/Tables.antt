@@ -1,11 +1,13 @@
 -- The words of a table: each that stands in it has its value, where no two of its words are the same, and any other is no match. That a
 -- table is such is computed. Assumes nothing.
-use Prim.Native.Nat.{ℕ}
+use native.Mathlib.Omega.{arith}
+use Prim.Native.Nat.{ℕ, zero, suc, _<_}
 use Prim.Native.String.{String}
 use borrow.Author.Tests.{eq-eqb, not-true}
 use mathlib.Core.Path.{_≡_, refl, ap, _∙_}
 use mathlib.Core.List.{List, [], _∷_, List·Memᴰ, List·Memᴰ·head, List·Memᴰ·tail}
 use mathlib.Core.Bool.{Bool, true, _&&_, not}
+use lib.ListN.{length, getD}
 use Rattle.primitive.specs.Answer.{none, matched}
 use Rattle.primitive.specs.Text.{bytes}
 use Rattle.primitive.specs.Primitive.{same, named}
@@ -20,6 +22,12 @@ every p (e ∷ es) = p e && every p es
 pub every-one : {A : Type 0} (p : A → Bool) {e : A} {es : List A} → every p es ≡ true → List·Memᴰ e es → p e ≡ true
 every-one p {es = x ∷ xs} h (List·Memᴰ·head z) = ap p z ∙ halves (p x) (every p xs) h .0
 every-one p {es = x ∷ xs} h (List·Memᴰ·tail m) = every-one p (halves (p x) (every p xs) h .1) m
+
+-- the entry at a place
+pub entry : {A : Type 0} (d : A) (es : List A) (i : ℕ) → i < length es → List·Memᴰ (getD es i d) es
+entry d [] i h = absurd (omega arith)
+entry d (x ∷ xs) zero h = List·Memᴰ·head refl
+entry d (x ∷ xs) (suc i) h = List·Memᴰ·tail (entry d xs i (omega arith))
 
 -- a word that the table does not have
 unfoldable pub lacks : {A : Type 0} → List (String × A) → List ℕ → Bool

@@ -9,15 +9,16 @@ use mathlib.Core.Bool.{Bool, true, false}
 use lib.ListN.{length, drop, length-drop, length-append}
 use lib.Dec.{eqb}
 use Rattle.primitive.specs.Text.{bytes, blank, digit, letter, starts}
-use Rattle.primitive.specs.Primitive.{space, decimal}
+use Rattle.primitive.specs.Primitive.{space, decimal, same}
 use Rattle.primitive.specs.Epoch.{padded, nanoseconds}
 use Rattle.primitive.specs.Ordinal.{signed}
+use Rattle.dates.specs.Date.{months}
 use Rattle.dates.specs.Year.{widenedBy, widened}
 use Rattle.times.specs.Offset.{inRange}
 use Rattle.times.specs.Time.{iso}
 use Rattle.times.specs.declared.time.Time.{Time}
 use Rattle.times.specs.declared.time.TimeOffset.the-variants as zone
-use Rattle.relative.specs.Relative.{direction, rounded}
+use Rattle.relative.specs.Relative.{rounded}
 use Rattle.relative.specs.Relative.{parse as parse-relative}
 use Rattle.relative.specs.declared.Relative.the-variants.{Seconds}
 use Rattle.items.specs.Combined.{starts-with-meridiem}
@@ -28,11 +29,12 @@ use Rattle.items.specs.declared.Slot.{Slot}
 use Rattle.forms.proofs.Walk.{Reads, Fails, Spaces, first, said, not-behind-space}
 use Rattle.forms.proofs.Leaves.{head, Number, plain, tag-else, number-head, number-still, still, blanks, signOf, seconds-read, fractional-read}
 use Rattle.forms.proofs.Leaves.{signed as sign-still}
-use Rattle.forms.proofs.Relative.{sign-no-letter, Word, none-read, second-unit, signed-seconds-item}
+use Rattle.forms.proofs.Tables.{lacks}
+use Rattle.forms.proofs.Relative.{no-direction, second-unit}
 use Rattle.forms.proofs.Times.{iso-read, second-read, correction-given, colon-correction-read, sign-no-digit}
 use Rattle.forms.proofs.Dates.{Year, inYear, iso1-read}
 use Rattle.forms.proofs.Combined.{no-meridiem, combined-item}
-use Rattle.forms.proofs.Items.{no-iso, no-letter-month, no-date, no-time, relative-last}
+use Rattle.forms.proofs.RelativeItems.{tested, other-word, signed-seconds}
 
 -- ---- a moment: its digits, what is asked of them, its text and its item
 
@@ -124,32 +126,16 @@ sign-fact : (p : ℕ → Bool) → p 43 ≡ false → p 45 ≡ false → (negati
 sign-fact p f g true = g
 sign-fact p f g false = f
 
-no-direction : Reads direction [] false []
-unfolding blank bytes starts
-no-direction = none-read (not-behind-space (still (plain refl)) (tag-else _ refl)) (not-behind-space (still (plain refl)) (tag-else _ refl))
-
 module _ (negative : Bool) {ns : List ℕ} (n : Number ns) (small : decimal ns < 2 ^ 63) where
   pub shift-space : Spaces (shiftText negative ns) (signOf negative ∷ (ns ++ (32 ∷ bytes "seconds")))
   unfolding blank
   shift-space = blanks (32 ∷ []) refl (sign-still negative (number-head _ n))
 
-  seconds-word : Word (bytes "seconds") []
-  unfolding bytes letter
-  seconds-word = record { long = omega arith; letters = refl; ends = refl }
-
-  seconds-item : Reads parse-relative (shiftText negative ns) (Seconds (signed negative (decimal ns)) 0) []
-  unfolding bytes blank digit
-  seconds-item =
-      said (by-sign negative (decimal ns))
-      (signed-seconds-item seconds-word no-direction (32 ∷ []) refl (second-unit true) (32 ∷ []) refl negative (number-head _ n) (seconds-read n (omega arith) refl refl refl) small)
-
   pub shift-item : Reads parse-item (shiftText negative ns) (item.Relative (Seconds (signed negative (decimal ns)) 0)) []
-  unfolding digit letter
+  unfolding tested lacks months same bytes letter blank
   shift-item =
-      let s = shift-space in
-      let k = sign-still negative (number-head (32 ∷ bytes "seconds") n) in
-      let d = sign-no-digit negative in
-      relative-last (no-iso s d refl) (no-date s d (no-letter-month s k (sign-no-letter negative))) (no-time s d) seconds-item
+      said (ap item.Relative (by-sign negative (decimal ns)))
+      (signed-seconds (second-unit true) (other-word (bytes "seconds") refl) (no-direction (still (plain refl)) refl refl) refl (32 ∷ []) refl (32 ∷ []) refl n small negative)
 
 -- ---- the list of items
 
