@@ -9,7 +9,7 @@ use lib.ListN.{length}
 use lib.Dec.{eqb}
 use Rattle.primitive.specs.Text.{blank, digit, letter}
 use Rattle.primitive.specs.Primitive.{decimal}
-use Rattle.dates.specs.Date.{dateOf, exists, unwritten, hyphen, comma, dotted, us, slash-part, literal, literal2, parse-non-iso}
+use Rattle.dates.specs.Date.{iso1, dateOf, exists, unwritten, hyphen, comma, dotted, us, slash-part, literal, literal2, parse-non-iso}
 use Rattle.dates.specs.Date.{nothing as no-part}
 use Rattle.dates.specs.declared.date.Date.{Date}
 use Rattle.dates.specs.declared.date.DateYear.the-variants.{Absent}
@@ -32,14 +32,13 @@ module _ (bs : List ℕ) (b : all blank bs ≡ true) where
   unfolding iso-date
   year-month-day m d a h f = iso-date-alone (first _ (iso1-read (blanks bs b (number-still _ (a .number))) m d a h)) f
 
--- digits in a row, the last two the day and the two in front of them the month: behind it stands no digit, no time, and no hyphen behind space
-pub year-month-day-row : (ys ms ds : List ℕ) {rest m′ : List ℕ} → length ms ≡ 2 → length ds ≡ 2 → Number ms → Number ds → Year ys (decimal ms) (decimal ds) → digit (head rest) ≡ false
-    → Spaces rest m′ → eqb (head m′) 45 ≡ false → Fails (parse-time-after-date (inYear ys (decimal ms) (decimal ds))) rest
+-- digits in a row, the last two the day and the two in front of them the month. Behind it stands no digit, no time, and nothing that makes the
+-- row the year of another date (`number-no-iso1`: no hyphen; `one-hyphen-no-iso1`: one hyphen and a number alone). No blank stands in front.
+pub year-month-day-row : (ys ms ds : List ℕ) {rest : List ℕ} → length ms ≡ 2 → length ds ≡ 2 → Number ms → Number ds → Year ys (decimal ms) (decimal ds) → digit (head rest) ≡ false
+    → Fails iso1 ((ys ++ (ms ++ ds)) ++ rest) → Fails (parse-time-after-date (inYear ys (decimal ms) (decimal ds))) rest
     → Reads parse-item ((ys ++ (ms ++ ds)) ++ rest) (item.Date (inYear ys (decimal ms) (decimal ds))) rest
 unfolding iso-date
-year-month-day-row ys ms ds two two′ m d a h s e f =
-    let n = row-number ys ms ds two two′ (a .number) m d in
-    iso-date-alone (number-no-iso1 n (still (number-still _ n)) h s e or iso2-read ys ms ds two two′ m d a h) f
+year-month-day-row ys ms ds two two′ m d a h e f = iso-date-alone (e or iso2-read ys ms ds two two′ m d a h) f
 
 -- ---- month/day/year, month/day; year/month/day
 

@@ -25,13 +25,13 @@ use Rattle.relative.specs.declared.Relative.the-variants.{Years, Days, Seconds}
 use Rattle.items.specs.Items.{parse-item}
 use Rattle.items.specs.declared.Item.{Item}
 use Rattle.items.specs.declared.Item.the-variants as item
-use Rattle.forms.proofs.Walk.{Reads, not-behind-space}
+use Rattle.forms.proofs.Walk.{Reads, at-once, not-behind-space}
 use Rattle.forms.proofs.Leaves.{all, halves, Number, plain, minus, still, blanks, over-sign, byte-else, colon-else, fraction-else, seconds-read, fractional-read}
 use Rattle.forms.proofs.Tables.{entry, lacks}
 use Rattle.forms.proofs.Dates.{Year, text-ends, no-slash-part, short-no-date, with-it, without-it, no-digit-year}
 use Rattle.forms.proofs.LiteralDates.{Month, month-names, hyphen-read, no-hyphen-read, comma-read, no-comma-read}
 use Rattle.forms.proofs.Combined.{no-meridiem, combined-hyphens, no-time-behind}
-use Rattle.forms.proofs.Times.{iso-read, second-read, no-second, correction-given, no-correction, no-sign-correction, digits-correction-read, hours-and-minutes-said, meridiem-else}
+use Rattle.forms.proofs.Times.{iso-read, second-read, no-second, correction-given, no-correction, no-sign-correction, no-colon-offset, digits-correction-read, hours-and-minutes-said, meridiem-else}
 use Rattle.forms.proofs.TimeItems.{time-24, time-12, meridiem-read}
 use Rattle.forms.proofs.Relative.{ago-read, no-direction, year-word, week-word, sec-unit}
 use Rattle.forms.proofs.RelativeItems.{tested, other-word, number-and-unit, ordinal-and-unit, signed-fractional-seconds}
@@ -122,27 +122,27 @@ unfolding bytes digit decimal nanoseconds padded blank
 whole-time =
     time-24 [] refl (row (bytes "20") refl) (row (bytes "02") refl) (omega arith) (omega arith) refl
     (second-read refl (fractional-read false (row (bytes "00") refl) (omega arith) (row (bytes "000000") refl) refl) (omega arith)) (no-correction (no-sign-correction (still (plain refl)) refl refl))
-    (meridiem-else (still (plain refl)) refl refl)
+    (λ z. meridiem-else (still (plain refl)) refl refl)
 
 short-time : Whole (bytes "20:02") (clock NotGiven)
 unfolding bytes digit decimal blank
 short-time =
     time-24 [] refl (row (bytes "20") refl) (row (bytes "02") refl) (omega arith) (omega arith) refl
-    (no-second (colon-else (still (plain refl)) refl)) (no-correction (no-sign-correction (still (plain refl)) refl refl)) (meridiem-else (still (plain refl)) refl refl)
+    (no-second (at-once _ (colon-else (still (plain refl)) refl))) (no-correction (no-sign-correction (still (plain refl)) refl refl)) (λ z. meridiem-else (still (plain refl)) refl refl)
 
 evening : Whole (bytes "8:02pm") (clock NotGiven)
 unfolding bytes digit decimal blank
 evening =
     time-12 [] refl (row (bytes "8") refl) (row (bytes "02") refl) (omega arith) (omega arith) (omega arith) refl
-    (no-second (colon-else (still (plain refl)) refl)) (meridiem-read [] refl true false)
+    (no-second (at-once _ (colon-else (still (plain refl)) refl))) (meridiem-read [] refl true false)
 
 zoned : Whole (bytes "20:02-0500") (clock (Given (record { negative = true; hours = 5; minutes = 0 })))
 unfolding bytes digit decimal inRange blank
 zoned =
     let s = still (minus refl) in
-    time-24 [] refl (row (bytes "20") refl) (row (bytes "02") refl) (omega arith) (omega arith) refl (no-second (colon-else s refl))
-    (correction-given (digits-correction-read true s (row (bytes "0500") refl) refl (not-behind-space (still (plain refl)) (colon-else (still (plain refl)) refl)) (omega arith) (hours-and-minutes-said true 4 500 (omega arith) refl) (fraction-else refl refl)))
-    (meridiem-else s refl refl)
+    time-24 [] refl (row (bytes "20") refl) (row (bytes "02") refl) (omega arith) (omega arith) refl (no-second (at-once _ (colon-else s refl)))
+    (correction-given (digits-correction-read true s (row (bytes "0500") refl) refl (no-colon-offset true s (row (bytes "0500") refl) refl (not-behind-space (still (plain refl)) (colon-else (still (plain refl)) refl))) (omega arith) (hours-and-minutes-said true 4 500 (omega arith) refl) (fraction-else refl refl)))
+    (λ z. meridiem-else s refl refl)
 
 -- 29.5: an ISO date, a `t`, an ISO time
 both-in-one : Whole (bytes "2022-09-06t14:19:13") (item.DateTime (record { date = dateOf (year.Given 2022) 9 6; time = record { hour = 14; minute = 19; second = 13; nanosecond = 0; offset = NotGiven } }))

@@ -20,10 +20,10 @@ use Rattle.relative.specs.declared.Relative.{Relative}
 use Rattle.items.specs.Combined.{parse-time-after-date}
 use Rattle.items.specs.Items.{date-time-item, dated-item, iso-date, iso-item, date-item, time-item, relative-item, time-or-relative, other-item, parse-item}
 use Rattle.items.specs.declared.Item.the-variants as item
-use Rattle.forms.proofs.Walk.{Reads, Fails, Spaces, _⟨_⟩_, _⟨_⟩!_, at-once, first, _or_, _nor_, nothing, not-behind-space, misses}
-use Rattle.forms.proofs.Leaves.{head, all, halves, digit-no-letter, blank-no-digit, Number, Still, still, byte-else, number-head, number-still, number-else, str-else, word-else, colon-else}
+use Rattle.forms.proofs.Walk.{Reads, Fails, Spaces, _⟨_⟩_, _⟨_⟩!_, at-once, first, _or_, _nor_, nothing, behind-space, not-behind-space, misses}
+use Rattle.forms.proofs.Leaves.{byte-read, head, all, halves, digit-no-letter, blank-no-digit, Number, Still, still, byte-else, number-head, number-still, number-else, str-else, word-else, colon-else}
 use Rattle.forms.proofs.Times.{number-or-fails, below-or-fails, no-minutes, no-second, no-offset}
-use Rattle.forms.proofs.Dates.{year-str-read, glued, no-glued-date}
+use Rattle.forms.proofs.Dates.{here, year-str-read, glued, no-glued-date}
 use Rattle.forms.proofs.LiteralDates.{no-hyphen-read}
 
 -- ---- the order of the readers
@@ -105,6 +105,11 @@ unfolding iso2
 no-row [] x b n d g = no-glued-date x n d (g refl)
 no-row (b ∷ bs) x a n d g = at-once _ (str-else (blank-no-digit b (halves (blank b) (all blank bs) a .0)))
 
+-- a number, a hyphen and a number behind which no hyphen stands
+pub one-hyphen-no-iso1 : {l ds x ks y : List ℕ} → Number ds → Number ks → Spaces l (ds ++ x) → digit (head x) ≡ false → Spaces x (45 ∷ (ks ++ y)) → digit (head y) ≡ false → Fails (spaced (byte 45)) y → Fails iso1 l
+unfolding iso1
+one-hyphen-no-iso1 n k s d g h f = year-str-read s n d ⟨ _ ⟩! behind-space g (byte-read 45) ⟨ _ ⟩! number-or-fails 255 _ (here _ k) k h (at-once _ f)
+
 -- behind the space behind the number stands m
 module _ {l ds x m : List ℕ} (n : Number ds) (s : Spaces l (ds ++ x)) (d : digit (head x) ≡ false) (k : Spaces x m) where
   mark-else : (c : ℕ) → eqb (head m) c ≡ false → Fails (spaced (byte c)) x
@@ -139,6 +144,6 @@ module _ {l ds x m : List ℕ} (n : Number ds) (s : Spaces l (ds ++ x)) (d : dig
   unfolding parse-time am-pm-time hour12 iso hour-offset clock hour24
   number-no-time c p q a =
       let e = colon-else k c in
-      below-or-fails 13 _ (omega arith) s n d (no-minutes e ⟨ _ ⟩! no-second e ⟨ _ ⟩! at-once _ a)
+      below-or-fails 13 _ (omega arith) s n d (no-minutes (at-once _ e) ⟨ _ ⟩! no-second (at-once _ e) ⟨ _ ⟩! at-once _ a)
       nor below-or-fails 24 _ (omega arith) s n d (at-once _ (no-offset k p q))
       nor below-or-fails 24 _ (omega arith) s n d (at-once _ e)

@@ -16,7 +16,7 @@ use Rattle.times.specs.declared.time.TimeOffset.{TimeOffset}
 use Rattle.times.specs.declared.time.TimeOffset.the-variants.{NotGiven}
 use Rattle.items.specs.Items.{iso-date, parse-item}
 use Rattle.items.specs.declared.Item.the-variants as item
-use Rattle.forms.proofs.Walk.{Reads, Fails, Spaces, _nor_, not-behind-space}
+use Rattle.forms.proofs.Walk.{Reads, Fails, Spaces, at-once, _nor_, not-behind-space}
 use Rattle.forms.proofs.Leaves.{head, all, other, letter-no-digit, blank-no-digit, blanks-head, Number, plain, letter-still, colon-else, number-still, still, blanks}
 use Rattle.forms.proofs.Tables.{lacks}
 use Rattle.forms.proofs.Times.{clock-item, half-day-item, minutes-given, no-minutes, no-second, am-read, a-m-read, pm-read, p-m-read}
@@ -71,8 +71,9 @@ module _ (bs : List ℕ) (b : all blank bs ≡ true) where
 -- ---- the items
 
 module _ (bs : List ℕ) (b : all blank bs ≡ true) {hs ms l m′ rest : List ℕ} (h : Number hs) (m : Number ms) where
-  -- `20:02`, `20:02:00.5`, each with a correction or without one. Behind the minutes stands no digit, behind the seconds neither am nor pm.
-  pub time-24 : decimal hs < 24 → decimal ms < 60 → digit (head l) ≡ false → {v : SecNsec} → Reads optional-second l v m′ → {o : TimeOffset} → Reads optional-correction m′ o rest → Fails meridiem m′
+  -- `20:02`, `20:02:00.5`, each with a correction or without one. Behind the minutes stands no digit, behind the seconds of an hour up to 12 neither am
+  -- nor pm.
+  pub time-24 : decimal hs < 24 → decimal ms < 60 → digit (head l) ≡ false → {v : SecNsec} → Reads optional-second l v m′ → {o : TimeOffset} → Reads optional-correction m′ o rest → (decimal hs ≤ 12 → Fails meridiem m′)
       → Reads parse-item (bs ++ (hs ++ (58 ∷ (ms ++ l)))) (item.Time (record { hour = decimal hs; minute = decimal ms; second = v .sec; nanosecond = v .nsec; offset = o })) rest
   time-24 hour minute d s c a =
       let f = no-dates-colon bs b (ms ++ l) h (omega arith) in
@@ -97,4 +98,4 @@ hour-12 bs b {hs} h some-hour hour cs c pm dots {rest} =
     let d = blanks-head digit blank-no-digit cs (meridiemOf pm dots ++ rest) c (letter-no-digit _ a) in
     let f = no-dates bs b h (omega arith) d k (no 45 refl) (no 46 refl) (no 47 refl) (no-name-here cs c pm dots rest) in
     let e = colon-else k (no 58 refl) in
-    time-next (f .0) (f .1) (half-day-item (blanks bs b (number-still _ h)) h some-hour hour d (no-minutes e) (no-second e) (meridiem-read cs c pm dots))
+    time-next (f .0) (f .1) (half-day-item (blanks bs b (number-still _ h)) h some-hour hour d (no-minutes (at-once _ e)) (no-second (at-once _ e)) (meridiem-read cs c pm dots))

@@ -8,7 +8,7 @@ use mathlib.Core.List.{List, _∷_, _++_}
 use mathlib.Core.Bool.{Bool, true, false}
 use lib.ListN.{length}
 use lib.Dec.{ltb, leb, eqb}
-use Rattle.primitive.specs.Answer.{Reader, if, pure, verify, _>>=_}
+use Rattle.primitive.specs.Answer.{_>>_, Reader, if, pure, verify, _>>=_}
 use Rattle.primitive.specs.Text.{bytes, blank, digit, starts}
 use Rattle.primitive.specs.Primitive.{spaced, colon, decimal, parse-uint, dec-uint}
 use Rattle.primitive.specs.Epoch.{fraction, sec-and-nsec}
@@ -96,14 +96,14 @@ pub minutes-given : {ms rest : List ℕ} → Number ms → digit (head rest) ≡
 unfolding optional-minute
 minutes-given {ms} {rest} m d h = first _ (colon-here ⟨ _ ⟩ minute-read (still (number-still rest m)) m d h)
 
-pub no-minutes : {rest : List ℕ} → Fails colon rest → Reads optional-minute rest 0 rest
+pub no-minutes : {rest : List ℕ} → Fails (colon >> minute) rest → Reads optional-minute rest 0 rest
 unfolding optional-minute
-no-minutes a = at-once _ a or nothing
+no-minutes a = a or nothing
 
--- no seconds where no colon follows
-pub no-second : {rest : List ℕ} → Fails colon rest → Reads optional-second rest (record { sec = 0; nsec = 0 }) rest
+-- no seconds where no colon follows with a number below 60
+pub no-second : {rest : List ℕ} → Fails (colon >> second) rest → Reads optional-second rest (record { sec = 0; nsec = 0 }) rest
 unfolding optional-second
-no-second a = at-once _ a or nothing
+no-second a = a or nothing
 
 -- ---- corrections
 
@@ -133,16 +133,16 @@ module _ (negative : Bool) {l hs ms rest : List ℕ} (s : Spaces l (signOf negat
   colon-correction-read =
       unless-read (sign-read negative s ⟨ _ ⟩! behind-space (still (number-still (58 ∷ (ms ++ rest)) h)) (str-read h refl) ⟨ _ ⟩! fraction-else refl refl) colon-offset-read
 
--- digits alone: `+0530`, `+8`. Behind them stands no digit, no colon behind space, and no point or comma with a digit.
-module _ (negative : Bool) {l ds rest : List ℕ} (s : Spaces l (signOf negative ∷ (ds ++ rest))) (n : Number ds) (d : digit (head rest) ≡ false) (c : Fails (spaced colon) rest) (small : decimal ds ≤ 9999) {v : Offset} (r : Reads (digits-offset negative (length ds) (decimal ds)) rest v rest) where
-  no-colon-offset : Fails timezone-offset-colon l
-  unfolding timezone-offset-colon
-  no-colon-offset = sign-read negative s ⟨ _ ⟩! number-or-fails 255 _ (still (number-still rest n)) n d (at-once _ c)
+-- digits alone: `+0530`, `+8`. Behind them stands no digit, no colon with minutes, and no point or comma with a digit.
+pub no-colon-offset : (negative : Bool) {l ds rest : List ℕ} → Spaces l (signOf negative ∷ (ds ++ rest)) → Number ds → digit (head rest) ≡ false → Fails (spaced colon) rest → Fails timezone-offset-colon l
+unfolding timezone-offset-colon
+no-colon-offset negative {rest = rest} s n d c = sign-read negative s ⟨ _ ⟩! number-or-fails 255 _ (still (number-still rest n)) n d (at-once _ c)
 
+module _ (negative : Bool) {l ds rest : List ℕ} (s : Spaces l (signOf negative ∷ (ds ++ rest))) (n : Number ds) (d : digit (head rest) ≡ false) (c : Fails timezone-offset-colon l) (small : decimal ds ≤ 9999) {v : Offset} (r : Reads (digits-offset negative (length ds) (decimal ds)) rest v rest) where
   pub digits-offset-read : Reads any-offset l v rest
   unfolding any-offset timezone-offset-colonless parse-uint
   digits-offset-read =
-      no-colon-offset
+      c
       or (sign-read negative s
       ⟨ _ ⟩ behind-space (still (number-still rest n)) (str-read n d)
       ⟨ _ ⟩ verified (le-leb (decimal ds) 9999 small)
@@ -209,12 +209,16 @@ module _ {x hs ms l m′ rest : List ℕ} (i : Spaces x (hs ++ (58 ∷ (ms ++ l)
   unfolding iso
   iso-read = no-hour-offset or clock-read
 
-  -- as an item, where neither am nor pm stands behind the seconds
-  no-half-day : Fails meridiem m′ → Fails am-pm-time x
+  -- as an item, where behind the seconds of an hour up to 12 neither am nor pm stands
+  no-half-day : (decimal hs ≤ 12 → Fails meridiem m′) → Fails am-pm-time x
   unfolding am-pm-time hour12 digit
-  no-half-day a = below-or-fails 13 _ (omega arith) i h refl (minutes-given m d minutes ⟨ _ ⟩! s ⟨ _ ⟩! at-once _ a)
+  no-half-day a = go (ltb (decimal hs) 13) refl
+    where
+      go : (t : Bool) → ltb (decimal hs) 13 ≡ t → Fails am-pm-time x
+      go true e = let z = ltb-true (decimal hs) 13 e in below-or-fails 13 _ (omega arith) i h refl (minutes-given m d minutes ⟨ _ ⟩! s ⟨ _ ⟩! at-once _ (a (omega arith)))
+      go false e = at-once _ (not-below 13 _ h i refl e)
 
-  pub clock-item : Fails meridiem m′ → Reads parse x clocked rest
+  pub clock-item : (decimal hs ≤ 12 → Fails meridiem m′) → Reads parse x clocked rest
   unfolding parse
   clock-item a = no-half-day a or iso-read
 
