@@ -13,6 +13,7 @@ pub mod TimeItems
 pub mod RelativeItems
 pub mod TwoItems
 pub mod Examples
+pub mod Premises
 pub mod DatesForward
 pub mod RelativeForward
 pub mod TimesForward
