@@ -30,9 +30,9 @@ use Rattle.forms.proofs.Leaves.{all, halves, Number, plain, minus, stil
 use Rattle.forms.proofs.Tables.{entry, lacks}
 use Rattle.forms.proofs.Dates.{Year, text-ends, no-slash-part, short-no-date, with-it, without-it, no-digit-year}
 use Rattle.forms.proofs.LiteralDates.{Month, month-names, hyphen-read, no-hyphen-read, comma-read, no-comma-read}
-use Rattle.forms.proofs.Combined.{no-meridiem, combined-hyphens, no-time-behind}
-use Rattle.forms.proofs.Times.{iso-read, second-read, no-second, correction-given, no-correction, no-sign-correction, no-colon-offset, digits-correction-read, hours-and-minutes-said, meridiem-else}
-use Rattle.forms.proofs.TimeItems.{time-24, time-12, meridiem-read}
+use Rattle.forms.proofs.Combined.{no-meridiem, iso-time, other-time, hour-alone, combined-hyphens, combined-row, no-time-behind}
+use Rattle.forms.proofs.Times.{iso-read, half-day-item, second-read, no-minutes, no-second, correction-given, no-correction, no-sign-correction, no-colon-offset, digits-correction-read, hours-and-minutes-said, meridiem-else, meridiem-read}
+use Rattle.forms.proofs.TimeItems.{time-24, time-12}
 use Rattle.forms.proofs.Relative.{ago-read, no-direction, year-word, week-word, sec-unit}
 use Rattle.forms.proofs.RelativeItems.{tested, other-word, number-and-unit, ordinal-and-unit, signed-fractional-seconds}
 use Rattle.forms.proofs.DateItems.{year-month-day, month-day-year, month-day, day-month, name-day}
@@ -149,9 +149,22 @@ both-in-one : Whole (bytes "2022-09-06t14:19:13") (item.DateTime (record { date 
 unfolding bytes digit letter decimal widenedBy exists leap monthDays blank
 both-in-one =
     combined-hyphens true refl
+    (iso-time
     (iso-read (still (plain refl)) (row (bytes "14") refl) (row (bytes "19") refl) (omega arith) (omega arith) refl
     (second-read refl (seconds-read (row (bytes "13") refl) (omega arith) refl refl refl) (omega arith)) (no-correction (no-sign-correction (still (plain refl)) refl refl)))
-    (no-meridiem [] [] refl refl refl refl) [] refl (row (bytes "09") refl) (row (bytes "06") refl) (year-of (bytes "2022") 9 6 refl)
+    (no-meridiem [] [] refl refl refl refl)) [] refl (row (bytes "09") refl) (row (bytes "06") refl) (year-of (bytes "2022") 9 6 refl)
+
+-- the Rust reads a time in 12 hours there too
+evening-in-one : Whole (bytes "20220906 8 p.m.") (item.DateTime (record { date = dateOf (year.Given 2022) 9 6; time = record { hour = 20; minute = 0; second = 0; nanosecond = 0; offset = NotGiven } }))
+unfolding bytes digit letter decimal widenedBy exists leap monthDays blank
+evening-in-one =
+    let s = still (plain refl) in
+    let k = blanks (bytes " ") refl (plain refl) in
+    let c = colon-else k refl in
+    combined-row false refl
+    (other-time (hour-alone (row (bytes "8") refl) s refl k refl refl refl)
+    (half-day-item s (row (bytes "8") refl) (omega arith) (omega arith) refl (no-minutes (at-once _ c)) (no-second (at-once _ c)) (meridiem-read (bytes " ") refl true true))) (bytes "2022") (bytes "09") (bytes "06") refl refl
+    (row (bytes "09") refl) (row (bytes "06") refl) (year-of (bytes "2022") 9 6 refl)
 
 -- 29.7: "'1 year' .. '3 years' .. '2 days' .. 'year ago'"
 year-ago : Whole (bytes "1 year ago") (item.Relative (Years (negsuc 0)))

@@ -11,6 +11,7 @@ pub mod Combined
 pub mod DateItems
 pub mod TimeItems
 pub mod RelativeItems
+pub mod Lists
 pub mod TwoItems
 pub mod Examples
 pub mod Premises

@@ -19,7 +19,7 @@ use Rattle.items.specs.declared.Item.the-variants as item
 use Rattle.forms.proofs.Walk.{Reads, Fails, Spaces, at-once, _nor_, not-behind-space}
 use Rattle.forms.proofs.Leaves.{head, all, other, letter-no-digit, blank-no-digit, blanks-head, Number, plain, letter-still, colon-else, number-still, still, blanks}
 use Rattle.forms.proofs.Tables.{lacks}
-use Rattle.forms.proofs.Times.{clock-item, half-day-item, minutes-given, no-minutes, no-second, am-read, a-m-read, pm-read, p-m-read}
+use Rattle.forms.proofs.Times.{clock-item, half-day-item, minutes-given, no-minutes, no-second, meridiemOf, meridiem-read}
 use Rattle.forms.proofs.Dates.{small-no-date}
 use Rattle.forms.proofs.LiteralDates.{no-name, letters-in}
 use Rattle.forms.proofs.Items.{time-next, no-letter-month, no-row, number-no-iso1, number-no-date}
@@ -38,26 +38,12 @@ no-dates-colon bs b x h s = no-dates bs b h s refl (still (plain refl)) refl ref
 
 -- ---- am and pm
 
--- the four spellings
-abbrev pub meridiemOf : Bool → Bool → List ℕ
-meridiemOf false false = bytes "am"
-meridiemOf false true = bytes "a.m."
-meridiemOf true false = bytes "pm"
-meridiemOf true true = bytes "p.m."
-
 meridiem-letter : (pm dots : Bool) (rest : List ℕ) → letter (head (meridiemOf pm dots ++ rest)) ≡ true
 unfolding bytes letter
 meridiem-letter false false rest = refl
 meridiem-letter false true rest = refl
 meridiem-letter true false rest = refl
 meridiem-letter true true rest = refl
-
-module _ (bs : List ℕ) (b : all blank bs ≡ true) {rest : List ℕ} where
-  pub meridiem-read : (pm dots : Bool) → Reads meridiem (bs ++ (meridiemOf pm dots ++ rest)) pm rest
-  meridiem-read false false = am-read bs b
-  meridiem-read false true = a-m-read bs b
-  meridiem-read true false = pm-read bs b
-  meridiem-read true true = p-m-read bs b
 
 module _ (bs : List ℕ) (b : all blank bs ≡ true) where
   -- whatever letters stand behind them, no name of a month begins so

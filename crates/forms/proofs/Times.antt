@@ -232,32 +232,46 @@ meridiem-else {m = m} s a p =
     nor at-once _ (not-behind-space s (tag-else _ (other-start 112 _ m p))))
     nor at-once _ (not-behind-space s (tag-else _ (other-start 112 _ m p)))
 
--- the four spellings, behind blanks or none
+-- the four spellings
+abbrev pub meridiemOf : Bool → Bool → List ℕ
+meridiemOf false false = bytes "am"
+meridiemOf false true = bytes "a.m."
+meridiemOf true false = bytes "pm"
+meridiemOf true true = bytes "p.m."
+
+-- each behind blanks or none
 module _ (bs : List ℕ) (b : all blank bs ≡ true) {rest : List ℕ} where
-  pub am-read : Reads meridiem (bs ++ (bytes "am" ++ rest)) false rest
+  am-read : Reads meridiem (bs ++ (bytes "am" ++ rest)) false rest
   unfolding meridiem bytes blank
   am-read = first _ (first _ (first _ (behind-space (blanks bs b (plain refl)) (tag-read (bytes "am")) ⟨ _ ⟩ nothing)))
 
-  pub a-m-read : Reads meridiem (bs ++ (bytes "a.m." ++ rest)) false rest
+  a-m-read : Reads meridiem (bs ++ (bytes "a.m." ++ rest)) false rest
   unfolding meridiem bytes blank starts
   a-m-read =
       first _ (first _ (at-once _ (not-behind-space (blanks bs b (plain refl)) (tag-else (bytes "am") refl))
       or (behind-space (blanks bs b (plain refl)) (tag-read (bytes "a.m.")) ⟨ _ ⟩ nothing)))
 
-  pub pm-read : Reads meridiem (bs ++ (bytes "pm" ++ rest)) true rest
+  pm-read : Reads meridiem (bs ++ (bytes "pm" ++ rest)) true rest
   unfolding meridiem bytes blank starts
   pm-read =
       first _ ((at-once _ (not-behind-space (blanks bs b (plain refl)) (tag-else (bytes "am") refl))
       nor at-once _ (not-behind-space (blanks bs b (plain refl)) (tag-else (bytes "a.m.") refl)))
       or (behind-space (blanks bs b (plain refl)) (tag-read (bytes "pm")) ⟨ _ ⟩ nothing))
 
-  pub p-m-read : Reads meridiem (bs ++ (bytes "p.m." ++ rest)) true rest
+  p-m-read : Reads meridiem (bs ++ (bytes "p.m." ++ rest)) true rest
   unfolding meridiem bytes blank starts
   p-m-read =
       ((at-once _ (not-behind-space (blanks bs b (plain refl)) (tag-else (bytes "am") refl))
       nor at-once _ (not-behind-space (blanks bs b (plain refl)) (tag-else (bytes "a.m.") refl)))
       nor at-once _ (not-behind-space (blanks bs b (plain refl)) (tag-else (bytes "pm") refl)))
       or (behind-space (blanks bs b (plain refl)) (tag-read (bytes "p.m.")) ⟨ _ ⟩ nothing)
+
+module _ (bs : List ℕ) (b : all blank bs ≡ true) {rest : List ℕ} where
+  pub meridiem-read : (pm dots : Bool) → Reads meridiem (bs ++ (meridiemOf pm dots ++ rest)) pm rest
+  meridiem-read false false = am-read bs b
+  meridiem-read false true = a-m-read bs b
+  meridiem-read true false = pm-read bs b
+  meridiem-read true true = p-m-read bs b
 
 module _ {x hs l m′ k rest : List ℕ} (i : Spaces x (hs ++ l)) (h : Number hs) (some-hour : 0 < decimal hs) (hour : decimal hs ≤ 12) (d : digit (head l) ≡ false) {mins : ℕ} (m : Reads optional-minute l mins m′) {v : SecNsec} (s : Reads optional-second m′ v k) {pm : Bool} (a : Reads meridiem k pm rest) where
   pub half-day-item : Reads parse x (record { hour = decimal hs % 12 + if pm 12 0; minute = mins; second = v .sec; nanosecond = v .nsec; offset = NotGiven }) rest

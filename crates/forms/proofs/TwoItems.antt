@@ -33,7 +33,8 @@ use Rattle.forms.proofs.Tables.{lacks}
 use Rattle.forms.proofs.Relative.{no-direction, second-unit}
 use Rattle.forms.proofs.Times.{iso-read, second-read, correction-given, colon-correction-read, sign-no-digit}
 use Rattle.forms.proofs.Dates.{Year, inYear, iso1-read}
-use Rattle.forms.proofs.Combined.{no-meridiem, combined-item}
+use Rattle.forms.proofs.Combined.{no-meridiem, iso-time, combined-item}
+use Rattle.forms.proofs.Lists.{Lists, no-more-items, one-item}
 use Rattle.forms.proofs.RelativeItems.{tested, other-word, signed-seconds}
 
 -- ---- a moment: its digits, what is asked of them, its text and its item
@@ -50,7 +51,7 @@ pub record Digits : Type 0 where
   pub zone-hours : List ℕ
   pub zone-minutes : List ℕ
 
-pub record InRange (r : Digits) : Type 0 where
+pub record Sound (r : Digits) : Type 0 where
   pub year : Year (r .year) (decimal (r .month)) (decimal (r .day))
   pub month : Number (r .month)
   pub day : Number (r .day)
@@ -98,7 +99,7 @@ pub nine-digits : (fs : List ℕ) → length fs ≡ 9 → nanoseconds fs ≡ dec
 unfolding nanoseconds
 nine-digits fs h = rw (← h, padded-all fs)
 
-module _ (r : Digits) (a : InRange r) {rest : List ℕ} (d : digit (head rest) ≡ false) where
+module _ (r : Digits) (a : Sound r) {rest : List ℕ} (d : digit (head rest) ≡ false) where
   time-read : Reads iso (clockText r rest) (timeOf r) rest
   unfolding digit
   time-read =
@@ -109,7 +110,7 @@ module _ (r : Digits) (a : InRange r) {rest : List ℕ} (d : digit (head rest) �
   -- The moment is one item, where behind it stands no digit, and behind blanks neither am nor pm.
   pub moment-item : Fails starts-with-meridiem rest → Reads parse-item (momentText r rest) (momentItem r) rest
   unfolding iso-date digit
-  moment-item m = combined-item false (first _ (iso1-read (still (number-still _ (a .year .number))) (a .month) (a .day) (a .year) refl)) (number-head _ (a .hour)) time-read m
+  moment-item m = combined-item false (first _ (iso1-read (still (number-still _ (a .year .number))) (a .month) (a .day) (a .year) refl)) (number-head _ (a .hour)) (iso-time time-read m)
 
 -- ---- a number of seconds
 
@@ -137,38 +138,9 @@ module _ (negative : Bool) {ns : List ℕ} (n : Number ns) (small : decimal ns <
       said (ap item.Relative (by-sign negative (decimal ns)))
       (signed-seconds (second-unit true) (other-word (bytes "seconds") refl) (no-direction (still (plain refl)) refl refl) refl (32 ∷ []) refl (32 ∷ []) refl n small negative)
 
--- ---- the list of items
-
--- Where the text goes on as l, behind the items xs and with room for k more, it has the items ys in all, and nothing is left.
-pub record Lists (k : ℕ) (xs : List Slot) (l : List ℕ) (ys : List Slot) : Type 0 where
-  pub lists : (text : List ℕ) (at : ℕ) → drop at text ≡ l → itemsFrom k xs text at ≡ ended ys 0 0
-
-module _ (text : List ℕ) (i : ℕ) where
-  outside : drop i text ≡ [] → length text ≤ i
-  outside e = let z : length text - i ≡ 0 = sym (length-drop i text) ∙ ap length e in omega arith
-
-  within : (m : List ℕ) → 0 < length m → drop i text ≡ m → i < length text
-  within m h e = let z : length text - i ≡ length m = sym (length-drop i text) ∙ ap length e in omega arith
-
-pub no-more-items : {k : ℕ} {xs : List Slot} {l : List ℕ} → Spaces l [] → Lists k xs l xs
-unfolding itemsFrom
-no-more-items {k} {xs} s = record { lists = λ text at e. go k text at (outside text (space text at) (s .spaces text at e)) }
-  where
-    go : (k : ℕ) (text : List ℕ) (at : ℕ) → length text ≤ space text at → itemsFrom k xs text at ≡ ended xs 0 0
-    go zero text at h = rw (le-ltb (space text at) (length text) h)
-    go (suc k) text at h = rw (le-ltb (space text at) (length text) h)
-
-pub one-item : {k : ℕ} {xs : List Slot} {l m : List ℕ} {v : Item} {rest : List ℕ} {ys : List Slot} → Spaces l m → 0 < length m → Reads parse-item l v rest → Lists k (xs ++ (record { item = v } ∷ [])) rest ys → Lists (suc k) xs l ys
-unfolding itemsFrom
-one-item {m = m} s h a r = record {
-  lists = λ text at e.
-      let (n, g, d) = a .reads text at e in
-      rw (lt-ltb (space text at) (length text) (within text (space text at) m h (s .spaces text at e)), g) (r .lists text n d);
-}
-
 -- ---- the two theorems
 
-module _ (r : Digits) (a : InRange r) where
+module _ (r : Digits) (a : Sound r) where
   moment-first : {k : ℕ} {rest : List ℕ} {ys : List Slot} → digit (head rest) ≡ false → Fails starts-with-meridiem rest → Lists k (record { item = momentItem r } ∷ []) rest ys → Lists (suc k) [] (momentText r rest) ys
   moment-first d m l =
       let long = a .year .number .long in
