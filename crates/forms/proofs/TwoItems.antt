@@ -1,14 +1,14 @@
 -- A written moment and a number of seconds behind it: `2024-03-13 09:30:00.000000000+00:00 -5 seconds` is read as exactly these two items,
 -- and the moment alone as one. The numbers are any rows of digits whose values are in range. Assumes nothing.
 use native.Mathlib.Omega.{arith}
-use borrow.Author.Tests.{lt-ltb, le-ltb, ne-eqb}
+use borrow.Author.Tests.{leb-true, lt-leb, lt-ltb, le-ltb, ne-eqb}
 use Prim.Native.Nat.{ℕ, zero, suc, _-_, _^_, _<_, _≤_}
 use mathlib.Core.Path.{_≡_, refl, sym, ap, _∙_}
 use mathlib.Core.List.{List, [], _∷_, _++_, append-assoc}
 use mathlib.Core.Bool.{Bool, true, false}
 use lib.ListN.{length, drop, length-drop, length-append}
-use lib.Dec.{eqb}
-use Rattle.primitive.specs.Text.{bytes, blank, digit, letter, starts}
+use lib.Dec.{leb, eqb}
+use Rattle.primitive.specs.Text.{lower, lowered, bytes, blank, digit, letter, starts}
 use Rattle.primitive.specs.Primitive.{space, decimal, same}
 use Rattle.primitive.specs.Epoch.{padded, nanoseconds}
 use Rattle.primitive.specs.Ordinal.{signed}
@@ -27,7 +27,7 @@ use Rattle.items.specs.declared.Item.{Item}
 use Rattle.items.specs.declared.Item.the-variants as item
 use Rattle.items.specs.declared.Slot.{Slot}
 use Rattle.forms.proofs.Walk.{Reads, Fails, Spaces, first, said, not-behind-space}
-use Rattle.forms.proofs.Leaves.{head, Number, plain, tag-else, number-head, number-still, still, blanks, signOf, seconds-read, fractional-read}
+use Rattle.forms.proofs.Leaves.{head, all, halves, Number, plain, tag-else, number-head, number-still, still, blanks, signOf, seconds-read, fractional-read}
 use Rattle.forms.proofs.Leaves.{signed as sign-still}
 use Rattle.forms.proofs.Tables.{lacks}
 use Rattle.forms.proofs.Relative.{no-direction, second-unit}
@@ -158,3 +158,52 @@ module _ (r : Digits) (a : Sound r) where
       simp append-assoc
       (moment-first refl (no-meridiem (32 ∷ []) _ refl (sign-fact blank refl refl negative) (sign-fact (λ b. eqb b 97) refl refl negative) (sign-fact (λ b. eqb b 112) refl refl negative))
       (one-item (shift-space negative n small) (omega arith) (shift-item negative n small) (no-more-items (still (plain refl)))) .lists _ 0 refl)
+
+-- ---- the texts in lower case
+
+-- a text that is its own lower case
+data Lower : List ℕ → Type 0 where
+  end : Lower []
+  then : {b : ℕ} {bs : List ℕ} → lower b ≡ b → Lower bs → Lower (b ∷ bs)
+
+lowered-same : {l : List ℕ} → Lower l → lowered l ≡ l
+unfolding lowered
+lowered-same end = refl
+lowered-same (then {b} h k) = rw (h, lowered-same k)
+
+digits-then : (ds : List ℕ) {l : List ℕ} → all digit ds ≡ true → Lower l → Lower (ds ++ l)
+unfolding digit lower
+digits-then [] h k = k
+digits-then (b ∷ bs) h k =
+    let t = halves (digit b) (all digit bs) h in
+    let m = leb-true b 57 (halves (leb 48 b) (leb b 57) (t .0) .1) in
+    let e : lower b ≡ b = rw (lt-leb 65 b (omega arith)) in
+    then e (digits-then bs (t .1) k)
+
+sign-lower : (negative : Bool) → lower (signOf negative) ≡ signOf negative
+unfolding lower
+sign-lower true = refl
+sign-lower false = refl
+
+module _ (r : Digits) (a : Sound r) where
+  clock-lower : {l : List ℕ} → Lower l → Lower (clockText r l)
+  unfolding lower
+  clock-lower k =
+      digits-then (r .hour) (a .hour .digits) (then refl (digits-then (r .minute) (a .minute .digits) (then refl (digits-then (r .second) (a .second .digits) (then refl (digits-then (r .fraction) (a .fraction .digits)
+      (then (sign-lower (r .negative)) (digits-then (r .zone-hours) (a .zone-hours .digits) (then refl (digits-then (r .zone-minutes) (a .zone-minutes .digits) k))))))))))
+
+  moment-lower : {l : List ℕ} → Lower l → Lower (momentText r l)
+  unfolding lower
+  moment-lower k = digits-then (r .year) (a .year .number .digits) (then refl (digits-then (r .month) (a .month .digits) (then refl (digits-then (r .day) (a .day .digits) (then refl (clock-lower k))))))
+
+shift-lower : (negative : Bool) {ns : List ℕ} → Number ns → Lower (shiftText negative ns)
+unfolding lower bytes
+shift-lower negative {ns} n = then refl (then (sign-lower negative) (digits-then ns (n .digits) (then refl (then refl (then refl (then refl (then refl (then refl (then refl (then refl end))))))))))
+
+-- Readers see these texts as they are.
+module _ (r : Digits) (a : Sound r) where
+  pub moment-lowered : lowered (momentText r []) ≡ momentText r []
+  moment-lowered = lowered-same (moment-lower r a end)
+
+  pub both-lowered : (negative : Bool) {ns : List ℕ} → Number ns → lowered (momentText r [] ++ shiftText negative ns) ≡ momentText r [] ++ shiftText negative ns
+  both-lowered negative n = simp append-assoc (lowered-same (moment-lower r a (shift-lower negative n)))
