@@ -3,4 +3,3 @@ pub mod Chain
 pub mod Years
 pub mod Parts
 pub mod Examples
-pub mod Forward

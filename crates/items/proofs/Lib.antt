@@ -1,6 +1,5 @@
 -- The laws and theorems of the crate `items`.
 pub mod Chain
 pub mod Loop
-pub mod Forward
 pub mod Theorems
 pub mod Examples

@@ -35,10 +35,10 @@ onward-then text at m n h k = (le-trans (h .0) (k .0), λ l. k .1 (h .1 l))
 
 -- an answer that is no match ends nowhere
 module _ {A : Type 0} (text : List ℕ) (at : ℕ) where
-  none-ends : Ends {A = A} text at none
+  pub none-ends : Ends {A = A} text at none
   none-ends v n e = let z : _≡_ {A = ℕ} 0 1 = cc in (omega arith, λ h. omega arith)
 
-  stop-ends : Ends {A = A} text at stop
+  pub stop-ends : Ends {A = A} text at stop
   stop-ends v n e = let z : _≡_ {A = ℕ} 0 1 = cc in (omega arith, λ h. omega arith)
 
   matched-ends : (u : A) (m : ℕ) → Onward text at m → Ends text at (matched u m)

@@ -12,6 +12,5 @@ pub mod Tables
 pub mod Fractions
 pub mod Limits
 pub mod Spaced
-pub mod Walk
-pub mod Leaves
 pub mod Examples
+pub mod Rows

@@ -11,7 +11,7 @@ use lib.Dec.{ltb}
 use borrow.Author.Tests.{lt-ltb, le-leb, ltb-true, ltb-false}
 use Rattle.primitive.specs.Text.{digit}
 use Rattle.primitive.specs.Primitive.{decimal}
-use Rattle.primitive.proofs.Leaves.{all, halves, Number}
+use Rattle.primitive.proofs.Rows.{all, halves, Number}
 use Rattle.primitive.proofs.Values.{decimal-more}
 use Rattle.writer.specs.Writer.{fixed, widthUpTo, width, digits, padded}
 

@@ -15,7 +15,7 @@ use Rattle.extended.proofs.Counting.{and-left}
 use Rattle.extended.proofs.Outcomes.{check-true}
 use Rattle.extended.proofs.Records.{Accepted}
 use Rattle.primitive.specs.Text.{lower, lowered, digit}
-use Rattle.primitive.proofs.Leaves.{all, halves}
+use Rattle.primitive.proofs.Rows.{all, halves}
 use Rattle.writer.specs.Writer.{fixed, width, padded, signOf, datePart, timePart, offsetPart, textOf, shown, Longer}
 use Rattle.writer.specs.declared.Text.{Text}
 use Rattle.writer.proofs.Digits.{all-join, all-also, fixed-digits, fixed-length, padded-digits, padded-length, year-width}

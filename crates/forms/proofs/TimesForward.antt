@@ -1,25 +1,16 @@
 -- Where an offset and a time end: never before the place asked, and within the text where that place is. Assumes nothing.
-use mathlib.Core.Path.{_≡_}
-use native.Mathlib.Omega.{arith}
 use Prim.Native.Nat.{ℕ, _+_, _/_, _%_}
-use mathlib.Core.List.{List}
 use mathlib.Core.Bool.{Bool, true, false}
 use lib.ListN.{length}
 use lib.Dec.{ltb, leb}
 use Rattle.primitive.specs.Answer.{Answer, Reader, matched, none, stop, if}
-use Rattle.primitive.proofs.Forward.{Ends, Forward, if-ends, then-forward, next-forward, or-forward, pure-forward, verify-forward, optional-forward, value-forward, spaced-forward, tag-forward, colon-forward, plus-or-minus-forward, dec-uint-forward, dec-uint-str-forward, parse-uint-forward, sec-and-nsec-forward}
+use Rattle.primitive.proofs.Forward.{Ends, Forward, none-ends, stop-ends, if-ends, then-forward, next-forward, or-forward, pure-forward, verify-forward, optional-forward, value-forward, spaced-forward, tag-forward, colon-forward, plus-or-minus-forward, dec-uint-forward, dec-uint-str-forward, parse-uint-forward, sec-and-nsec-forward}
 use Rattle.times.specs.Offset.{certain, without, unless, inRange, offset-of, timezone-offset-colon, digits-offset, timezone-offset-colonless, any-offset, signed-fraction, time-zone-correction, timezone-offset}
 use Rattle.relative.specs.Relative.{parse as relative}
 use Rattle.times.specs.Time.{below, hour24, hour12, minute, second, optional-second, optional-minute, optional-correction, hour-offset, clock, iso, meridiem, am-pm-time, parse}
 use Rattle.times.specs.declared.time.TimeOffset.the-variants.{Given, NotGiven}
 
 -- ---- combinators
-
-stop-ends : {A : Type 0} (text : List ℕ) (at : ℕ) → Ends {A = A} text at stop
-stop-ends text at v n e = let z : _≡_ {A = ℕ} 0 1 = cc in (omega arith, λ h. omega arith)
-
-none-ends : {A : Type 0} (text : List ℕ) (at : ℕ) → Ends {A = A} text at none
-none-ends text at v n e = let z : _≡_ {A = ℕ} 0 1 = cc in (omega arith, λ h. omega arith)
 
 certain-forward : {A : Type 0} (t : Bool) (v : A) → Forward (certain t v)
 certain-forward t v text at = if-ends text at t _ _ (pure-forward v text at) (stop-ends text at)

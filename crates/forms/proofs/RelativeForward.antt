@@ -1,6 +1,4 @@
 -- Where a relative item ends: never before the place asked, and within the text where that place is. Assumes nothing.
-use mathlib.Core.Path.{_≡_}
-use native.Mathlib.Omega.{arith}
 use Prim.Native.Nat.{ℕ, _^_}
 use Prim.Native.String.{String}
 use mathlib.Core.List.{List, [], _∷_}
@@ -11,10 +9,10 @@ use lib.Signed.{mag}
 use Rattle.primitive.specs.Answer.{Reader, matched, if, andThen, _>>=_}
 use Rattle.primitive.specs.Text.{bytes}
 use Rattle.primitive.specs.Primitive.{named, same}
-use Rattle.primitive.proofs.Forward.{Ends, Forward, then-forward, next-forward, or-forward, pure-forward, verify-forward, optional-forward, value-forward, spaced-forward, tag-forward, named-forward, alpha1-forward, plus-or-minus-forward, sec-and-nsec-forward, ordinal-forward}
+use Rattle.primitive.proofs.Forward.{Ends, Forward, none-ends, then-forward, next-forward, or-forward, pure-forward, verify-forward, optional-forward, value-forward, spaced-forward, tag-forward, named-forward, alpha1-forward, plus-or-minus-forward, sec-and-nsec-forward, ordinal-forward}
 use Rattle.relative.specs.Relative.{direction, rounded, second-words, second-word, signed-seconds, seconds, days, units, stripped, in-unit, displaced, displacement, parse}
 use Rattle.relative.specs.declared.Relative.{Relative}
 use Rattle.relative.specs.declared.Relative.the-variants.{Days}
 
 pub direction-forward : Forward direction
 unfolding direction
@@ -46,7 +44,7 @@ data Each (n : ℤ) : List (String × (ℤ → Reader Relative)) → Type 0 wher
 
 table-forward : (n : ℤ) (w : List ℕ) (es : List (String × (ℤ → Reader Relative))) → Each n es → Forward (named es w >>= λ unit. unit n)
 unfolding named
-table-forward n w [] no-more text at = λ v m e. let z : _≡_ {A = ℕ} 0 1 = cc in (omega arith, λ h. omega arith)
+table-forward n w [] no-more text at = none-ends text at
 table-forward n w (x ∷ es) (one-more f fs) text at = go (same w (bytes (x .0))) (table-forward n w es fs text at)
   where
     go : (t : Bool) → Ends text at ((named es w >>= λ unit. unit n) text at)

@@ -5,9 +5,9 @@ use mathlib.Core.Path.{_≡_, refl, ap}
 use mathlib.Core.List.{List}
 use mathlib.Core.Bool.{Bool, true, false}
 use lib.ListN.{length, drop, length-drop}
-use Rattle.primitive.specs.Answer.{Reader, matched, none, _>>=_, _>>_, _<|>_, pure, value, optional, verify}
+use Rattle.primitive.specs.Answer.{Reader, matched, none, _>>=_, _<|>_, pure, verify}
 use Rattle.primitive.specs.Primitive.{space, spaced}
 use Rattle.primitive.proofs.Forward.{Forward}
 
 -- Where the text goes on as l, p matches with the value v, and behind the match the text goes on as m.
 pub record Reads {A : Type 0} (p : Reader A) (l : List ℕ) (v : A) (m : List ℕ) : Type 0 where

@@ -2,38 +2,64 @@
 -- among them. Assumes nothing.
 use native.Mathlib.Omega.{arith}
 use Prim.Native.Nat.{ℕ, zero, suc, _+_, _-_, _<_, _≤_}
-use native.Mathlib.Nat.{add-zero, zero-add, suc-add}
+use native.Mathlib.Nat.{add-zero}
 use mathlib.Core.Path.{_≡_, refl, sym, ap, _∙_}
 use mathlib.Core.List.{List, [], _∷_, _++_}
-use mathlib.Core.Bool.{Bool, true, false, _&&_, not}
-use lib.ListN.{length, getD, take, drop, length-drop}
-use lib.Seq.{getD-drop, drop-drop, drop-append-seam, take-append-seam, slice}
-use lib.Dec.{ltb, leb, eqb}
-use borrow.Author.Tests.{lt-ltb, le-ltb, le-leb, lt-leb, eq-eqb, ne-eqb, leb-true, not-true}
-use Rattle.primitive.specs.Answer.{Answer, matched, none, if, _>>_, pure}
+use mathlib.Core.Bool.{Bool, true, false, _&&_, _||_, not}
+use lib.ListN.{length, getD, drop, length-drop}
+use lib.Seq.{getD-drop, drop-drop, drop-append-seam, take-append-seam}
+use lib.Dec.{leb, eqb}
+use borrow.Author.Tests.{eqb-true, lt-ltb, le-ltb, le-leb, lt-leb, eq-eqb, ne-eqb, leb-true, not-true}
+use Rattle.primitive.specs.Answer.{matched, none, _>>_, pure}
 use Rattle.primitive.specs.Text.{blank, digit, letter, run, past, some, starts, tag}
-use Rattle.primitive.specs.Primitive.{multispace0, comment, no-digit, sign, ignored-hyphen-or-plus, ignored, behind, skip, space, spaced, decimal, parse-uint, dec-uint-str, dec-uint, colon, plus-or-minus, alpha1}
+use Rattle.primitive.specs.Primitive.{multispace0, comment, no-digit, sign, ignored-hyphen-or-plus, ignored, skip, space, decimal, parse-uint, dec-uint-str, dec-uint, colon, plus-or-minus, alpha1}
 use Rattle.primitive.specs.Epoch.{nanoseconds, point-or-comma, fraction, sec-and-nsec}
-use Rattle.primitive.specs.declared.epoch.SecAndNsec.{SecAndNsec}
 use Rattle.primitive.proofs.Limits.{slice-take}
-use Rattle.primitive.proofs.Walk.{Reads, Fails, Spaces, _⟨_⟩_, _⟨_⟩!_, at-once, first, _or_, _nor_, nothing, verified, behind-space, not-behind-space}
+use Rattle.primitive.proofs.Rows.{all, halves, both, Number}
+use Rattle.forms.proofs.Walk.{Reads, Fails, Spaces, _⟨_⟩_, _⟨_⟩!_, at-once, first, _or_, _nor_, nothing, verified, behind-space, not-behind-space}
 
 -- the first byte, and 0 at the end
 abbrev pub head : List ℕ → ℕ
 head [] = 0
 head (b ∷ bs) = b
 
-abbrev pub all : (ℕ → Bool) → List ℕ → Bool
-all p [] = true
-all p (b ∷ bs) = p b && all p bs
-
-pub halves : (a b : Bool) → a && b ≡ true → (a ≡ true) × (b ≡ true)
-halves true b e = (refl, e)
-halves false b e = let z : _≡_ {A = ℕ} 0 1 = cc in absurd (omega arith)
-
 pub head-all : (p : ℕ → Bool) (k l : List ℕ) → 0 < length k → all p k ≡ true → p (head (k ++ l)) ≡ true
 head-all p [] l h g = absurd (omega arith)
 head-all p (b ∷ bs) l h g = halves (p b) (all p bs) g .0
+
+-- ---- bytes by their kind
+
+clash : _≡_ {A = ℕ} 0 1 → ⊥
+clash z = omega arith
+
+pub letter-no-digit : (b : ℕ) → letter b ≡ true → digit b ≡ false
+unfolding letter digit
+letter-no-digit b h =
+    let l = leb-true 97 b (halves (leb 97 b) (leb b 122) h .0) in
+    rw (le-leb 48 b (omega arith), lt-leb b 57 (omega arith))
+
+pub digit-no-letter : (b : ℕ) → digit b ≡ true → letter b ≡ false
+unfolding letter digit
+digit-no-letter b h =
+    let l = leb-true b 57 (halves (leb 48 b) (leb b 57) h .1) in
+    rw (lt-leb 97 b (omega arith))
+
+-- what passes a test that c does not pass is not c
+pub other : (p : ℕ → Bool) (b c : ℕ) → p b ≡ true → p c ≡ false → eqb b c ≡ false
+other p b c h g = ne-eqb b c (λ z. let w : true ≡ false = sym h ∙ (ap p z ∙ g) in let y : _≡_ {A = ℕ} 0 1 = cc in clash y)
+
+pub blank-no-digit : (b : ℕ) → blank b ≡ true → digit b ≡ false
+unfolding blank digit
+blank-no-digit b = go (eqb b 32) refl
+  where
+    go : (t : Bool) → eqb b 32 ≡ t → t || (leb 9 b && leb b 13) ≡ true → leb 48 b && leb b 57 ≡ false
+    go true e h = let z = eqb-true b 32 e in rw (lt-leb 48 b (omega arith))
+    go false e h = let l = leb-true b 13 (halves (leb 9 b) (leb b 13) h .1) in rw (lt-leb 48 b (omega arith))
+
+-- what no blank passes and the byte behind blanks does not
+pub blanks-head : (p : ℕ → Bool) → ((b : ℕ) → blank b ≡ true → p b ≡ false) → (bs l : List ℕ) → all blank bs ≡ true → p (head l) ≡ false → p (head (bs ++ l)) ≡ false
+blanks-head p f [] l a h = h
+blanks-head p f (b ∷ bs) l a h = f b (halves (blank b) (all blank bs) a .0)
 
 head-at : (text : List ℕ) (at : ℕ) (l : List ℕ) → drop at text ≡ l → getD text at 0 ≡ head l
 head-at text at l e = rw (← add-zero at, ← getD-drop at text 0 0, e) (go l)
@@ -95,11 +121,6 @@ word-else = some-else letter
 
 -- ---- digits
 
--- a row of digits, one or more
-pub record Number (ds : List ℕ) : Type 0 where
-  pub long : 0 < length ds
-  pub digits : all digit ds ≡ true
-
 pub str-read : {ds rest : List ℕ} → Number ds → digit (head rest) ≡ false → Reads dec-uint-str (ds ++ rest) ds rest
 unfolding dec-uint-str
 str-read {ds} n h = some-read digit ds (n .long) (n .digits) h
@@ -151,12 +172,18 @@ digit-still {l} h = plain (quiet-digit (head l) h)
 pub number-still : {ds : List ℕ} (l : List ℕ) → Number ds → Still (ds ++ l)
 number-still {ds} l n = plain (quiet-digit (head (ds ++ l)) (number-head l n))
 
+pub letter-still : {l : List ℕ} → letter (head l) ≡ true → Still l
+letter-still {l} h = plain (quiet-letter (head l) h)
+
 pub word-still : (ws l : List ℕ) → 0 < length ws → all letter ws ≡ true → Still (ws ++ l)
 word-still ws l h g = plain (quiet-letter (head (ws ++ l)) (head-all letter ws l h g))
 
-blanks-read : {l : List ℕ} → blank (head l) ≡ false → Reads multispace0 l tt l
+-- blanks, none or more
+pub blanks-read : (bs : List ℕ) {l : List ℕ} → all blank bs ≡ true → blank (head l) ≡ false → Reads multispace0 (bs ++ l) tt l
 unfolding multispace0 past
-blanks-read {l} h = record { reads = λ text at e. (at + 0, rw (e, run-none blank l h), rw add-zero e) }
+blanks-read bs {l} g h = record {
+  reads = λ text at e. (at + length bs, rw (e, run-all blank bs l g h), rw (← drop-drop (length bs) at text, e) (drop-append-seam bs l));
+}
 
 no-digit-else : {l : List ℕ} → digit (head l) ≡ true → Fails no-digit l
 unfolding no-digit
@@ -165,7 +192,7 @@ no-digit-else {l} h = record { fails = λ text at e. rw (head-at text at l e, h)
 digit-no-blank : (l : List ℕ) → digit (head l) ≡ true → blank (head l) ≡ false
 digit-no-blank l h = not-true _ (halves _ _ (quiet-digit (head l) h) .0)
 
-still-no-blank : {l : List ℕ} → Still l → blank (head l) ≡ false
+pub still-no-blank : {l : List ℕ} → Still l → blank (head l) ≡ false
 unfolding blank
 still-no-blank (plain h) = not-true _ (halves _ _ h .0)
 still-no-blank (plus h) = refl
@@ -173,16 +200,17 @@ still-no-blank (minus h) = refl
 
 -- a sign with a digit behind it is not skipped
 kept : {l : List ℕ} → digit (head l) ≡ true → Fails (multispace0 >> no-digit) l
-kept {l} h = blanks-read (digit-no-blank l h) ⟨ _ ⟩! no-digit-else h
+kept {l} h = blanks-read [] refl (digit-no-blank l h) ⟨ _ ⟩! no-digit-else h
 
-other-byte : (b : ℕ) (l : List ℕ) → eqb (head l) b ≡ false → starts (b ∷ []) l ≡ false
+-- fixed bytes whose first is not there
+pub other-start : (b : ℕ) (w l : List ℕ) → eqb (head l) b ≡ false → starts (b ∷ w) l ≡ false
 unfolding starts
-other-byte b [] h = refl
-other-byte b (c ∷ cs) h = rw h
+other-start b w [] h = refl
+other-start b w (c ∷ cs) h = rw h
 
 -- one byte that is not there
 pub byte-else : (b : ℕ) {l : List ℕ} → eqb (head l) b ≡ false → Fails (tag (b ∷ [])) l
-byte-else b {l} h = tag-else (b ∷ []) (other-byte b l h)
+byte-else b {l} h = tag-else (b ∷ []) (other-start b [] l h)
 
 pub byte-read : (b : ℕ) {l : List ℕ} → Reads (tag (b ∷ [])) (b ∷ l) tt l
 byte-read b = tag-read (b ∷ [])
@@ -232,6 +260,35 @@ sign-here false = first _ (byte-read 43 ⟨ _ ⟩ nothing)
 pub no-sign-here : {m : List ℕ} → eqb (head m) 43 ≡ false → eqb (head m) 45 ≡ false → Fails sign m
 unfolding sign
 no-sign-here g h = at-once _ (byte-else 43 g) nor at-once _ (byte-else 45 h)
+
+no-digit-read : {l : List ℕ} → digit (head l) ≡ false → Reads no-digit l tt l
+unfolding no-digit
+no-digit-read {l} h = record { reads = λ text at e. (at, rw (head-at text at l e, h), e) }
+
+sign-no-blank : (w : Bool) → blank (signOf w) ≡ false
+unfolding blank
+sign-no-blank true = refl
+sign-no-blank false = refl
+
+no-comment : (w : Bool) → eqb (signOf w) 40 ≡ false
+no-comment true = refl
+no-comment false = refl
+
+-- 29.1: a sign with no digit behind it is skipped
+pub over-sign : (bs : List ℕ) (w : Bool) {l : List ℕ} → all blank bs ≡ true → Still l → digit (head l) ≡ false → Spaces (bs ++ (signOf w ∷ l)) l
+unfolding space past skip ignored comment ignored-hyphen-or-plus
+over-sign bs w {l} g k h = record {
+  spaces = λ text at e.
+      let d : drop (at + length bs) text ≡ signOf w ∷ l = rw (← drop-drop (length bs) at text, e) (drop-append-seam bs (signOf w ∷ l)) in
+      let z : length text - (at + length bs) ≡ suc (length l) = sym (length-drop (at + length bs) text) ∙ ap length d in
+      let r : Reads ignored (signOf w ∷ l) tt l = at-once _ (byte-else 40 (no-comment w)) or (sign-here w ⟨ _ ⟩ blanks-read [] refl (still-no-blank k) ⟨ _ ⟩ no-digit-read h) in
+      let (n, i, f) = r .reads text (at + length bs) d in
+      rw (e, run-all blank bs (signOf w ∷ l) g (sign-no-blank w), ended text (at + length bs) n (length text) i f (omega arith)) f;
+}
+  where
+    ended : (text : List ℕ) (at n k : ℕ) → ignored text at ≡ matched tt n → drop n text ≡ l → 0 < k → skip k text at ≡ n
+    ended text at n zero i f z = absurd (omega arith)
+    ended text at n (suc j) i f z = rw (i, f, run-none blank l (still-no-blank k), add-zero n) (skip-none text n j (still-kept k .fails text n f))
 
 pub sign-read : (w : Bool) {l m : List ℕ} → Spaces l (signOf w ∷ m) → Reads plus-or-minus l w m
 unfolding plus-or-minus

@@ -2,63 +2,30 @@
 -- range; blanks may stand between the tokens. What may stand behind the item is a premise: no letter at once, and no word of
 -- direction where none is meant. Assumes nothing.
 use native.Mathlib.Omega.{arith}
-use borrow.Author.Tests.{lt-ltb, le-leb, lt-leb, leb-true, eqb-true, ne-eqb, not-true}
+use borrow.Author.Tests.{lt-ltb}
 use Prim.Native.Nat.{ℕ, _^_, _<_, _≤_}
 use Prim.Native.String.{String}
-use mathlib.Core.Path.{_≡_, refl, sym, ap, _∙_}
-use mathlib.Core.List.{List, [], _∷_, _++_}
-use mathlib.Core.Bool.{Bool, true, false, _&&_, _||_, not}
+use mathlib.Core.Path.{_≡_, refl}
+use mathlib.Core.List.{List, [], _∷_, _++_, List·Memᴰ}
+use mathlib.Core.Bool.{Bool, true, false, not}
 use lib.ListN.{length}
-use lib.Dec.{leb, eqb}
-use lib.IntN.{ℤ, pos, negsuc, negℤ, _*ℤ_}
+use lib.Dec.{eqb}
+use lib.IntN.{ℤ, pos, negℤ, _*ℤ_}
 use lib.Signed.{mag}
-use Rattle.primitive.specs.Answer.{none, if, optional, pure}
+use Rattle.primitive.specs.Answer.{if, optional, pure}
 use Rattle.primitive.specs.Text.{bytes, blank, digit, letter, starts, quoted}
 use Rattle.primitive.specs.Primitive.{spaced, decimal, sign, same, named}
 use Rattle.primitive.specs.Epoch.{sec-and-nsec}
 use Rattle.primitive.specs.Ordinal.{signed, ordinals, text-ordinal, signed-number, number-ordinal, ordinal}
 use Rattle.primitive.specs.declared.epoch.SecAndNsec.{SecAndNsec}
-use Rattle.primitive.proofs.Walk.{Reads, Fails, Spaces, _⟨_⟩_, _⟨_⟩!_, at-once, first, _or_, _nor_, nothing, verified, behind-space, not-behind-space}
-use Rattle.primitive.proofs.Leaves.{head, all, halves, head-all, Number, tag-read, tag-else, word-read, word-else, number-read, number-else, number-head, digit-still, number-still, seconds-read, seconds-else, word-still, blanks, still, signOf, sign-here, no-sign-here, sign-read, sign-else}
-use Rattle.primitive.proofs.Leaves.{signed as sign-still}
+use Rattle.forms.proofs.Walk.{Reads, Fails, Spaces, _⟨_⟩_, _⟨_⟩!_, at-once, first, _or_, _nor_, nothing, verified, behind-space, not-behind-space}
+use Rattle.forms.proofs.Leaves.{head, blanks-head, letter-no-digit, digit-no-letter, blank-no-digit, other, head-all, tag-read, tag-else, other-start, word-read, word-else, number-read, number-else, number-head, digit-still, number-still, seconds-read, seconds-else, word-still, blanks, still, signOf, sign-here, no-sign-here, sign-read, sign-else}
+use Rattle.primitive.proofs.Rows.{all, Number}
+use Rattle.forms.proofs.Leaves.{signed as sign-still}
+use Rattle.forms.proofs.Tables.{lacks, not-named, distinct, table-read}
 use Rattle.relative.specs.Relative.{direction, rounded, second-words, second-word, signed-seconds, seconds, days, units, stripped, in-unit, displaced, displacement, parse}
 use Rattle.relative.specs.declared.Relative.{Relative}
-use Rattle.relative.specs.declared.Relative.the-variants.{Years, Months, Days, Hours, Minutes}
-
--- ---- bytes by their kind
-
-clash : _≡_ {A = ℕ} 0 1 → ⊥
-clash z = omega arith
-
-letter-no-digit : (b : ℕ) → letter b ≡ true → digit b ≡ false
-unfolding letter digit
-letter-no-digit b h =
-    let l = leb-true 97 b (halves (leb 97 b) (leb b 122) h .0) in
-    rw (le-leb 48 b (omega arith), lt-leb b 57 (omega arith))
-
-digit-no-letter : (b : ℕ) → digit b ≡ true → letter b ≡ false
-unfolding letter digit
-digit-no-letter b h =
-    let l = leb-true b 57 (halves (leb 48 b) (leb b 57) h .1) in
-    rw (lt-leb 97 b (omega arith))
-
--- what passes a test that c does not pass is not c
-other : (p : ℕ → Bool) (b c : ℕ) → p b ≡ true → p c ≡ false → eqb b c ≡ false
-other p b c h g = ne-eqb b c (λ z. let w : true ≡ false = sym h ∙ (ap p z ∙ g) in let y : _≡_ {A = ℕ} 0 1 = cc in clash y)
-
--- what stands behind blanks and a word's first letter: the first byte is a blank or a letter
-module _ (p : ℕ → Bool) (f : (b : ℕ) → blank b ≡ true → p b ≡ false) (g : (b : ℕ) → letter b ≡ true → p b ≡ false) where
-  gap-head : (bs w l : List ℕ) → all blank bs ≡ true → 0 < length w → all letter w ≡ true → p (head (bs ++ (w ++ l))) ≡ false
-  gap-head [] w l a h k = g _ (head-all letter w l h k)
-  gap-head (b ∷ bs) w l a h k = f b (halves (blank b) (all blank bs) a .0)
-
-blank-no-digit : (b : ℕ) → blank b ≡ true → digit b ≡ false
-unfolding blank digit
-blank-no-digit b = go (eqb b 32) refl
-  where
-    go : (t : Bool) → eqb b 32 ≡ t → t || (leb 9 b && leb b 13) ≡ true → leb 48 b && leb b 57 ≡ false
-    go true e h = let z = eqb-true b 32 e in rw (lt-leb 48 b (omega arith))
-    go false e h = let l = leb-true b 13 (halves (leb 9 b) (leb b 13) h .1) in rw (lt-leb 48 b (omega arith))
+use Rattle.relative.specs.declared.Relative.the-variants.{Years, Months, Days, Hours, Minutes, Seconds}
 
 -- ---- directions
 
@@ -77,6 +44,11 @@ hence-read bs {rest} b =
 pub none-read : {rest : List ℕ} → Fails (spaced (quoted "ago")) rest → Fails (spaced (quoted "hence")) rest → Reads direction rest false rest
 unfolding direction
 none-read a h = (at-once _ a nor at-once _ h) or nothing
+
+-- nor where neither an `a` nor an `h` stands behind the space
+pub no-direction : {l m : List ℕ} → Spaces l m → eqb (head m) 97 ≡ false → eqb (head m) 104 ≡ false → Reads direction l false l
+unfolding bytes
+no-direction {m = m} s a h = none-read (not-behind-space s (tag-else _ (other-start 97 _ m a))) (not-behind-space s (tag-else _ (other-start 104 _ m h)))
 
 -- ---- ordinals
 
@@ -97,7 +69,7 @@ no-text-ordinal : {l m : List ℕ} → Spaces l m → letter (head m) ≡ false 
 unfolding text-ordinal
 no-text-ordinal s h = at-once _ (not-behind-space s (word-else h))
 
-sign-no-letter : (negative : Bool) → letter (signOf negative) ≡ false
+pub sign-no-letter : (negative : Bool) → letter (signOf negative) ≡ false
 unfolding letter
 sign-no-letter true = refl
 sign-no-letter false = refl
@@ -137,7 +109,7 @@ module _ {w l rest : List ℕ} (word : Word w l) {ago : Bool} (d : Reads directi
     gap = blanks bs b (word-still w l (word .long) (word .letters))
 
     no-digit-next : digit (head (bs ++ (w ++ l))) ≡ false
-    no-digit-next = gap-head digit blank-no-digit letter-no-digit bs w l b (word .long) (word .letters)
+    no-digit-next = blanks-head digit blank-no-digit bs (w ++ l) b (letter-no-digit _ (head-all letter w l (word .long) (word .letters)))
 
     displaced-read : (n : ℤ) {v : Relative} → ((m : List ℕ) → Reads (in-unit (if ago (negℤ n) n) w) m v m) → Reads (displaced n) (bs ++ (w ++ l)) v rest
     unfolding displaced
@@ -212,7 +184,7 @@ module _ {w l rest : List ℕ} (word : Word w l) {ago : Bool} (d : Reads directi
       no-second-word = behind-space gap (word-read w (word .long) (word .letters) (word .ends)) ⟨ named second-words ⟩! t l
 
       no-point : (c : ℕ) → blank c ≡ false → letter c ≡ false → eqb (head (bs ++ (w ++ l))) c ≡ false
-      no-point c f g = gap-head (λ b. eqb b c) (λ b h. other blank b c h f) (λ b h. other letter b c h g) bs w l b (word .long) (word .letters)
+      no-point c f g = blanks-head (λ b. eqb b c) (λ b h. other blank b c h f) bs (w ++ l) b (other letter _ c (head-all letter w l (word .long) (word .letters)) g)
 
       module _ (as′ : List ℕ) (a : all blank as′ ≡ true) {ds : List ℕ} (n : Number ds) (small : decimal ds ≤ 2147483647) where
         no-signed-seconds : (negative : Bool) → Fails (signed-seconds negative) (as′ ++ (ds ++ (bs ++ (w ++ l))))
@@ -249,159 +221,108 @@ abbrev pub plural : Bool → List ℕ
 plural true = bytes "s"
 plural false = []
 
-pub year-unit : (s : Bool) (n : ℤ) (m : List ℕ) → Reads (in-unit n (bytes "year" ++ plural s)) m (Years n) m
-unfolding in-unit units named same stripped bytes
-year-unit true n m = record { reads = λ text at e. (at, refl, e) }
-year-unit false n m = record { reads = λ text at e. (at, refl, e) }
-
-pub month-unit : (s : Bool) (n : ℤ) (m : List ℕ) → Reads (in-unit n (bytes "month" ++ plural s)) m (Months n) m
-unfolding in-unit units named same stripped bytes
-month-unit true n m = record { reads = λ text at e. (at, refl, e) }
-month-unit false n m = record { reads = λ text at e. (at, refl, e) }
-
-pub day-unit : (s : Bool) (n : ℤ) (m : List ℕ) → Reads (in-unit n (bytes "day" ++ plural s)) m (Days n) m
-unfolding in-unit units named same stripped bytes
-day-unit true n m = record { reads = λ text at e. (at, refl, e) }
-day-unit false n m = record { reads = λ text at e. (at, refl, e) }
-
-pub hour-unit : (s : Bool) (n : ℤ) (m : List ℕ) → Reads (in-unit n (bytes "hour" ++ plural s)) m (Hours n) m
-unfolding in-unit units named same stripped bytes
-hour-unit true n m = record { reads = λ text at e. (at, refl, e) }
-hour-unit false n m = record { reads = λ text at e. (at, refl, e) }
-
-pub minute-unit : (s : Bool) (n : ℤ) (m : List ℕ) → Reads (in-unit n (bytes "minute" ++ plural s)) m (Minutes n) m
-unfolding in-unit units named same stripped bytes
-minute-unit true n m = record { reads = λ text at e. (at, refl, e) }
-minute-unit false n m = record { reads = λ text at e. (at, refl, e) }
-
-pub min-unit : (s : Bool) (n : ℤ) (m : List ℕ) → Reads (in-unit n (bytes "min" ++ plural s)) m (Minutes n) m
-unfolding in-unit units named same stripped bytes
-min-unit true n m = record { reads = λ text at e. (at, refl, e) }
-min-unit false n m = record { reads = λ text at e. (at, refl, e) }
-
--- weeks and fortnights, where an i32 holds their days
-pub week-unit : (s : Bool) (n : ℤ) → mag (n *ℤ pos 7) < 2 ^ 31 → (m : List ℕ) → Reads (in-unit n (bytes "week" ++ plural s)) m (Days (n *ℤ pos 7)) m
-unfolding in-unit units named same stripped bytes days
-week-unit true n h m = record { reads = λ text at e. (at, rw (lt-ltb (mag (n *ℤ pos 7)) (2 ^ 31) h), e) }
-week-unit false n h m = record { reads = λ text at e. (at, rw (lt-ltb (mag (n *ℤ pos 7)) (2 ^ 31) h), e) }
-
-pub fortnight-unit : (s : Bool) (n : ℤ) → mag (n *ℤ pos 14) < 2 ^ 31 → (m : List ℕ) → Reads (in-unit n (bytes "fortnight" ++ plural s)) m (Days (n *ℤ pos 14)) m
-unfolding in-unit units named same stripped bytes days
-fortnight-unit true n h m = record { reads = λ text at e. (at, rw (lt-ltb (mag (n *ℤ pos 14)) (2 ^ 31) h), e) }
-fortnight-unit false n h m = record { reads = λ text at e. (at, rw (lt-ltb (mag (n *ℤ pos 14)) (2 ^ 31) h), e) }
-
 -- ---- the words for seconds, and those that are no seconds and no ordinals
 
 pub second-unit : (s : Bool) (m : List ℕ) → Reads (named second-words (bytes "second" ++ plural s)) m tt m
 unfolding second-words named same bytes
-second-unit true m = record { reads = λ text at e. (at, refl, e) }
-second-unit false m = record { reads = λ text at e. (at, refl, e) }
+second-unit true m = nothing
+second-unit false m = nothing
 
 pub sec-unit : (s : Bool) (m : List ℕ) → Reads (named second-words (bytes "sec" ++ plural s)) m tt m
 unfolding second-words named same bytes
-sec-unit true m = record { reads = λ text at e. (at, refl, e) }
-sec-unit false m = record { reads = λ text at e. (at, refl, e) }
+sec-unit true m = nothing
+sec-unit false m = nothing
 
--- a word that a table does not have: computed for each unit and each table
-unfoldable pub lacks : {A : Type 0} → List (String × A) → List ℕ → Bool
-lacks [] w = true
-lacks (e ∷ es) w = not (same w (bytes (e .0))) && lacks es w
-
-not-found : {A : Type 0} (w text : List ℕ) (at : ℕ) (es : List (String × A)) → lacks es w ≡ true → named es w text at ≡ none
-unfolding lacks named
-not-found w text at [] h = refl
-not-found w text at (x ∷ xs) h = let t = halves (not (same w (bytes (x .0)))) (lacks xs w) h in rw (not-true (same w (bytes (x .0))) (t .0)) (not-found w text at xs (t .1))
-
-pub not-named : {A : Type 0} (es : List (String × A)) (w : List ℕ) → lacks es w ≡ true → (m : List ℕ) → Fails (named es w) m
-not-named es w h m = record { fails = λ text at e. not-found w text at es h }
-
--- ---- every unit but seconds, in every form
+-- ---- every unit in every form
 
 -- a word for a unit: what it makes of a number n, where n is one that it can be given
 pub record UnitWord (w : List ℕ) (f : ℤ → Relative) (given : ℤ → Type 0) : Type 0 where
   pub long : 0 < length w
   pub letters : all letter w ≡ true
-  pub no-seconds : lacks second-words w ≡ true
   pub no-ordinal : lacks ordinals w ≡ true
   pub unit : (n : ℤ) → given n → (m : List ℕ) → Reads (in-unit n w) m (f n) m
 
-pub year-word : (s : Bool) → UnitWord (bytes "year" ++ plural s) Years (λ n. Unit {0})
-unfolding lacks second-words ordinals same bytes letter
-year-word true = record { long = omega arith; letters = refl; no-seconds = refl; no-ordinal = refl; unit = λ n g m. year-unit true n m }
-year-word false = record { long = omega arith; letters = refl; no-seconds = refl; no-ordinal = refl; unit = λ n g m. year-unit false n m }
+-- one that is no word for seconds, which are read otherwise behind a number
+pub record LongUnit (w : List ℕ) (f : ℤ → Relative) (given : ℤ → Type 0) : Type 0 where
+  pub word : UnitWord w f given
+  pub no-seconds : lacks second-words w ≡ true
 
-pub month-word : (s : Bool) → UnitWord (bytes "month" ++ plural s) Months (λ n. Unit {0})
-unfolding lacks second-words ordinals same bytes letter
-month-word true = record { long = omega arith; letters = refl; no-seconds = refl; no-ordinal = refl; unit = λ n g m. month-unit true n m }
-month-word false = record { long = omega arith; letters = refl; no-seconds = refl; no-ordinal = refl; unit = λ n g m. month-unit false n m }
+pub year-word : (s : Bool) → LongUnit (bytes "year" ++ plural s) Years (λ n. Unit {0})
+unfolding lacks second-words ordinals in-unit units named same stripped bytes letter
+year-word true = record { word = record { long = omega arith; letters = refl; no-ordinal = refl; unit = λ n g m. nothing }; no-seconds = refl }
+year-word false = record { word = record { long = omega arith; letters = refl; no-ordinal = refl; unit = λ n g m. nothing }; no-seconds = refl }
 
-pub day-word : (s : Bool) → UnitWord (bytes "day" ++ plural s) Days (λ n. Unit {0})
-unfolding lacks second-words ordinals same bytes letter
-day-word true = record { long = omega arith; letters = refl; no-seconds = refl; no-ordinal = refl; unit = λ n g m. day-unit true n m }
-day-word false = record { long = omega arith; letters = refl; no-seconds = refl; no-ordinal = refl; unit = λ n g m. day-unit false n m }
+pub month-word : (s : Bool) → LongUnit (bytes "month" ++ plural s) Months (λ n. Unit {0})
+unfolding lacks second-words ordinals in-unit units named same stripped bytes letter
+month-word true = record { word = record { long = omega arith; letters = refl; no-ordinal = refl; unit = λ n g m. nothing }; no-seconds = refl }
+month-word false = record { word = record { long = omega arith; letters = refl; no-ordinal = refl; unit = λ n g m. nothing }; no-seconds = refl }
 
-pub hour-word : (s : Bool) → UnitWord (bytes "hour" ++ plural s) Hours (λ n. Unit {0})
-unfolding lacks second-words ordinals same bytes letter
-hour-word true = record { long = omega arith; letters = refl; no-seconds = refl; no-ordinal = refl; unit = λ n g m. hour-unit true n m }
-hour-word false = record { long = omega arith; letters = refl; no-seconds = refl; no-ordinal = refl; unit = λ n g m. hour-unit false n m }
+pub day-word : (s : Bool) → LongUnit (bytes "day" ++ plural s) Days (λ n. Unit {0})
+unfolding lacks second-words ordinals in-unit units named same stripped bytes letter
+day-word true = record { word = record { long = omega arith; letters = refl; no-ordinal = refl; unit = λ n g m. nothing }; no-seconds = refl }
+day-word false = record { word = record { long = omega arith; letters = refl; no-ordinal = refl; unit = λ n g m. nothing }; no-seconds = refl }
 
-pub minute-word : (s : Bool) → UnitWord (bytes "minute" ++ plural s) Minutes (λ n. Unit {0})
-unfolding lacks second-words ordinals same bytes letter
-minute-word true = record { long = omega arith; letters = refl; no-seconds = refl; no-ordinal = refl; unit = λ n g m. minute-unit true n m }
-minute-word false = record { long = omega arith; letters = refl; no-seconds = refl; no-ordinal = refl; unit = λ n g m. minute-unit false n m }
+pub hour-word : (s : Bool) → LongUnit (bytes "hour" ++ plural s) Hours (λ n. Unit {0})
+unfolding lacks second-words ordinals in-unit units named same stripped bytes letter
+hour-word true = record { word = record { long = omega arith; letters = refl; no-ordinal = refl; unit = λ n g m. nothing }; no-seconds = refl }
+hour-word false = record { word = record { long = omega arith; letters = refl; no-ordinal = refl; unit = λ n g m. nothing }; no-seconds = refl }
 
-pub min-word : (s : Bool) → UnitWord (bytes "min" ++ plural s) Minutes (λ n. Unit {0})
-unfolding lacks second-words ordinals same bytes letter
-min-word true = record { long = omega arith; letters = refl; no-seconds = refl; no-ordinal = refl; unit = λ n g m. min-unit true n m }
-min-word false = record { long = omega arith; letters = refl; no-seconds = refl; no-ordinal = refl; unit = λ n g m. min-unit false n m }
+pub minute-word : (s : Bool) → LongUnit (bytes "minute" ++ plural s) Minutes (λ n. Unit {0})
+unfolding lacks second-words ordinals in-unit units named same stripped bytes letter
+minute-word true = record { word = record { long = omega arith; letters = refl; no-ordinal = refl; unit = λ n g m. nothing }; no-seconds = refl }
+minute-word false = record { word = record { long = omega arith; letters = refl; no-ordinal = refl; unit = λ n g m. nothing }; no-seconds = refl }
 
-pub week-word : (s : Bool) → UnitWord (bytes "week" ++ plural s) (λ n. Days (n *ℤ pos 7)) (λ n. mag (n *ℤ pos 7) < 2 ^ 31)
-unfolding lacks second-words ordinals same bytes letter
-week-word true = record { long = omega arith; letters = refl; no-seconds = refl; no-ordinal = refl; unit = week-unit true }
-week-word false = record { long = omega arith; letters = refl; no-seconds = refl; no-ordinal = refl; unit = week-unit false }
+pub min-word : (s : Bool) → LongUnit (bytes "min" ++ plural s) Minutes (λ n. Unit {0})
+unfolding lacks second-words ordinals in-unit units named same stripped bytes letter
+min-word true = record { word = record { long = omega arith; letters = refl; no-ordinal = refl; unit = λ n g m. nothing }; no-seconds = refl }
+min-word false = record { word = record { long = omega arith; letters = refl; no-ordinal = refl; unit = λ n g m. nothing }; no-seconds = refl }
 
-pub fortnight-word : (s : Bool) → UnitWord (bytes "fortnight" ++ plural s) (λ n. Days (n *ℤ pos 14)) (λ n. mag (n *ℤ pos 14) < 2 ^ 31)
-unfolding lacks second-words ordinals same bytes letter
-fortnight-word true = record { long = omega arith; letters = refl; no-seconds = refl; no-ordinal = refl; unit = fortnight-unit true }
-fortnight-word false = record { long = omega arith; letters = refl; no-seconds = refl; no-ordinal = refl; unit = fortnight-unit false }
+-- weeks and fortnights, where an i32 holds their days
+pub week-word : (s : Bool) → LongUnit (bytes "week" ++ plural s) (λ n. Days (n *ℤ pos 7)) (λ n. mag (n *ℤ pos 7) < 2 ^ 31)
+unfolding lacks second-words ordinals in-unit units named same stripped bytes letter days
+week-word true = record { word = record { long = omega arith; letters = refl; no-ordinal = refl; unit = λ n g m. verified (lt-ltb (mag (n *ℤ pos 7)) (2 ^ 31) g) }; no-seconds = refl }
+week-word false = record { word = record { long = omega arith; letters = refl; no-ordinal = refl; unit = λ n g m. verified (lt-ltb (mag (n *ℤ pos 7)) (2 ^ 31) g) }; no-seconds = refl }
+
+pub fortnight-word : (s : Bool) → LongUnit (bytes "fortnight" ++ plural s) (λ n. Days (n *ℤ pos 14)) (λ n. mag (n *ℤ pos 14) < 2 ^ 31)
+unfolding lacks second-words ordinals in-unit units named same stripped bytes letter days
+fortnight-word true = record { word = record { long = omega arith; letters = refl; no-ordinal = refl; unit = λ n g m. verified (lt-ltb (mag (n *ℤ pos 14)) (2 ^ 31) g) }; no-seconds = refl }
+fortnight-word false = record { word = record { long = omega arith; letters = refl; no-ordinal = refl; unit = λ n g m. verified (lt-ltb (mag (n *ℤ pos 14)) (2 ^ 31) g) }; no-seconds = refl }
+
+pub second-unit-word : (s : Bool) → UnitWord (bytes "second" ++ plural s) (λ n. Seconds n 0) (λ n. Unit {0})
+unfolding lacks ordinals in-unit units named same stripped bytes letter
+second-unit-word true = record { long = omega arith; letters = refl; no-ordinal = refl; unit = λ n g m. nothing }
+second-unit-word false = record { long = omega arith; letters = refl; no-ordinal = refl; unit = λ n g m. nothing }
+
+pub sec-unit-word : (s : Bool) → UnitWord (bytes "sec" ++ plural s) (λ n. Seconds n 0) (λ n. Unit {0})
+unfolding lacks ordinals in-unit units named same stripped bytes letter
+sec-unit-word true = record { long = omega arith; letters = refl; no-ordinal = refl; unit = λ n g m. nothing }
+sec-unit-word false = record { long = omega arith; letters = refl; no-ordinal = refl; unit = λ n g m. nothing }
 
 -- the number with its direction
 abbrev pub turned : Bool → ℤ → ℤ
 turned ago n = if ago (negℤ n) n
 
--- `3 years`, `-3 years ago`, `year`, `last year ago`: blanks, a number, blanks, a unit, a direction
-module _ {w : List ℕ} {f : ℤ → Relative} {given : ℤ → Type 0} (u : UnitWord w f given) {l rest : List ℕ} {ago : Bool} (d : Reads direction l ago rest) (ends : letter (head l) ≡ false) (bs : List ℕ) (b : all blank bs ≡ true) where
-  the-word : Word w l
-  the-word = record { long = u .long; letters = u .letters; ends = ends }
+-- `year`, `last year ago`, `second`: a unit alone or behind an ordinal word, and a direction
+module _ {w : List ℕ} {f : ℤ → Relative} {given : ℤ → Type 0} {l rest : List ℕ} {ago : Bool} (d : Reads direction l ago rest) (ends : letter (head l) ≡ false) (bs : List ℕ) (b : all blank bs ≡ true) where
+  the-word : UnitWord w f given → Word w l
+  the-word u = record { long = u .long; letters = u .letters; ends = ends }
+
+  pub bare-form : UnitWord w f given → given (turned ago (pos 1)) → Reads parse (bs ++ (w ++ l)) (f (turned ago (pos 1))) rest
+  bare-form u g = bare-item (the-word u) d bs b (not-named ordinals w (u .no-ordinal)) (u .unit _ g)
 
   module _ (as′ : List ℕ) (a : all blank as′ ≡ true) where
-    pub unsigned-form : {ds : List ℕ} → Number ds → decimal ds ≤ 2147483647 → given (turned ago (pos (decimal ds))) → Reads parse (as′ ++ (ds ++ (bs ++ (w ++ l)))) (f (turned ago (pos (decimal ds)))) rest
-    unsigned-form n small g = unsigned-item the-word d bs b (not-named second-words w (u .no-seconds)) as′ a n small (u .unit _ g)
+    pub ordinal-form : UnitWord w f given → (o : List ℕ) (n : ℤ) → Word o (bs ++ (w ++ l)) → ((m : List ℕ) → Reads (named ordinals o) m n m) → given (turned ago n) → Reads parse (as′ ++ (o ++ (bs ++ (w ++ l)))) (f (turned ago n)) rest
+    ordinal-form u o n k t g = ordinal-item (the-word u) d bs b as′ a o n k t (u .unit _ g)
 
-    pub signed-form : {ds : List ℕ} → Number ds → decimal ds ≤ 2147483647 → (negative : Bool) → given (turned ago (signed negative (decimal ds))) → Reads parse (as′ ++ (signOf negative ∷ (ds ++ (bs ++ (w ++ l))))) (f (turned ago (signed negative (decimal ds)))) rest
-    signed-form n small negative g = signed-item the-word d bs b (not-named second-words w (u .no-seconds)) as′ a n small negative (u .unit _ g)
+    -- `3 years`, `-3 years ago`: a number, blanks, a unit that is no second, and a direction
+    module _ (u : LongUnit w f given) {ds : List ℕ} (n : Number ds) (small : decimal ds ≤ 2147483647) where
+      pub unsigned-form : given (turned ago (pos (decimal ds))) → Reads parse (as′ ++ (ds ++ (bs ++ (w ++ l)))) (f (turned ago (pos (decimal ds)))) rest
+      unsigned-form g = unsigned-item (the-word (u .word)) d bs b (not-named second-words w (u .no-seconds)) as′ a n small (u .word .unit _ g)
 
-    pub ordinal-form : (o : List ℕ) (n : ℤ) → Word o (bs ++ (w ++ l)) → ((m : List ℕ) → Reads (named ordinals o) m n m) → given (turned ago n) → Reads parse (as′ ++ (o ++ (bs ++ (w ++ l)))) (f (turned ago n)) rest
-    ordinal-form o n k t g = ordinal-item the-word d bs b as′ a o n k t (u .unit _ g)
+      pub signed-form : (negative : Bool) → given (turned ago (signed negative (decimal ds))) → Reads parse (as′ ++ (signOf negative ∷ (ds ++ (bs ++ (w ++ l))))) (f (turned ago (signed negative (decimal ds)))) rest
+      signed-form negative g = signed-item (the-word (u .word)) d bs b (not-named second-words w (u .no-seconds)) as′ a n small negative (u .word .unit _ g)
 
-  pub bare-form : given (turned ago (pos 1)) → Reads parse (bs ++ (w ++ l)) (f (turned ago (pos 1))) rest
-  bare-form g = bare-item the-word d bs b (not-named ordinals w (u .no-ordinal)) (u .unit _ g)
-
--- 29.1: the ordinal words
-pub ordinal-words : (m : List ℕ)
-    → Reads (named ordinals (bytes "last")) m (negsuc 0) m
-    × Reads (named ordinals (bytes "this")) m (pos 0) m
-    × Reads (named ordinals (bytes "next")) m (pos 1) m
-    × Reads (named ordinals (bytes "first")) m (pos 1) m
-    × Reads (named ordinals (bytes "third")) m (pos 3) m
-    × Reads (named ordinals (bytes "fourth")) m (pos 4) m
-    × Reads (named ordinals (bytes "fifth")) m (pos 5) m
-    × Reads (named ordinals (bytes "sixth")) m (pos 6) m
-    × Reads (named ordinals (bytes "seventh")) m (pos 7) m
-    × Reads (named ordinals (bytes "eighth")) m (pos 8) m
-    × Reads (named ordinals (bytes "ninth")) m (pos 9) m
-    × Reads (named ordinals (bytes "tenth")) m (pos 10) m
-    × Reads (named ordinals (bytes "eleventh")) m (pos 11) m
-    × Reads (named ordinals (bytes "twelfth")) m (pos 12) m
-unfolding ordinals named same bytes
-ordinal-words m = (record { reads = λ text at e. (at, refl, e) }, record { reads = λ text at e. (at, refl, e) }, record { reads = λ text at e. (at, refl, e) }, record { reads = λ text at e. (at, refl, e) }, record { reads = λ text at e. (at, refl, e) }, record { reads = λ text at e. (at, refl, e) }, record { reads = λ text at e. (at, refl, e) }, record { reads = λ text at e. (at, refl, e) }, record { reads = λ text at e. (at, refl, e) }, record { reads = λ text at e. (at, refl, e) }, record { reads = λ text at e. (at, refl, e) }, record { reads = λ text at e. (at, refl, e) }, record { reads = λ text at e. (at, refl, e) }, record { reads = λ text at e. (at, refl, e) })
+-- 29.1: the ordinal words, each of the table
+pub ordinal-words : {e : String × ℤ} → List·Memᴰ e ordinals → (m : List ℕ) → Reads (named ordinals (bytes (e .0))) m (e .1) m
+unfolding distinct ordinals same bytes
+ordinal-words = table-read ordinals refl

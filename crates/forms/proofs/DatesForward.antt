@@ -4,13 +4,13 @@ use mathlib.Core.List.{List, [], _∷_, _++_}
 use mathlib.Core.Bool.{Bool, true, false}
 use lib.ListN.{length}
 use lib.Dec.{leb}
-use Rattle.primitive.specs.Answer.{Reader, if, _>>=_, _>>_, _<|>_, pure, value, optional, verify, matched, none}
+use Rattle.primitive.specs.Answer.{Reader, if, matched, none}
 use Rattle.primitive.specs.Text.{byte}
-use Rattle.primitive.specs.Primitive.{multispace1, spaced, parse-uint, dec-uint-str, dec-uint, alpha1, named}
-use Rattle.primitive.proofs.Forward.{Forward, Ends, if-ends, then-forward, next-forward, or-forward, pure-forward, verify-forward, optional-forward, value-forward, tag-forward, named-forward, multispace1-forward, spaced-forward, dec-uint-str-forward, parse-uint-forward, dec-uint-forward, alpha1-forward}
+use Rattle.primitive.specs.Primitive.{multispace1, spaced, dec-uint-str, dec-uint}
+use Rattle.primitive.proofs.Forward.{Forward, none-ends, if-ends, then-forward, next-forward, or-forward, pure-forward, verify-forward, optional-forward, value-forward, tag-forward, named-forward, multispace1-forward, spaced-forward, dec-uint-str-forward, parse-uint-forward, dec-uint-forward, alpha1-forward}
 use Rattle.dates.specs.declared.date.DateYear.the-variants.{Given, Absent}
 use Rattle.dates.specs.Year.{widened, year-from-str, year-str}
 use Rattle.dates.specs.Date.{dateOf, exists, with-year, without-year, Written, written, unwritten, dated, end-of-text, blank-or-end, ended, ended-year, dated-behind, nothing, hyphen, comma, dotted, iso1, five-digits, iso2, us-date, slash-part, us-rest, us, months, word-dot, literal-month, literal1, literal2, literal3, literal, parse-non-iso}
 
 year-from-str-forward : (w : List ℕ) → Forward (year-from-str w)
 unfolding year-from-str
@@ -36,10 +36,7 @@ dated-forward m d unwritten = without-year-forward m d
 -- what reads nothing by a test of the place
 end-of-text-forward : Forward end-of-text
 unfolding end-of-text
-end-of-text-forward text at = if-ends text at (leb (length text) at) (matched tt at) none (pure-forward tt text at) (none-here text at)
-  where
-    none-here : (text : List ℕ) (at : ℕ) → Ends {A = Unit {0}} text at none
-    none-here text at = verify-forward false tt text at
+end-of-text-forward text at = if-ends text at (leb (length text) at) (matched tt at) none (pure-forward tt text at) (none-ends text at)
 
 blank-or-end-forward : Forward blank-or-end
 unfolding blank-or-end

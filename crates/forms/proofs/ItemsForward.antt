@@ -1,19 +1,21 @@
 -- Where an item ends: never before the place asked, and within the text where that place is. Assumes nothing.
-use native.Mathlib.Omega.{arith}
-use Prim.Native.Nat.{ℕ}
+use Prim.Native.Nat.{ℕ, _-_, _≤_}
 use mathlib.Core.Path.{_≡_}
 use mathlib.Core.List.{List}
+use lib.ListN.{length, drop}
 use Rattle.primitive.specs.Answer.{Answer, Reader, matched, none, stop, pure}
 use Rattle.primitive.specs.Primitive.{space}
-use Rattle.primitive.proofs.Forward.{Ends, Forward, then-forward, next-forward, or-forward, pure-forward, tag-forward, spaced-forward, space-onward}
-use Rattle.dates.proofs.Forward.{iso1-forward, iso2-forward, parse-non-iso-forward}
+use Rattle.primitive.proofs.Forward.{Ends, Forward, none-ends, then-forward, next-forward, or-forward, pure-forward, tag-forward, spaced-forward, space-onward}
+use Rattle.items.specs.declared.Item.{Item}
+use Rattle.forms.proofs.Walk.{Reads, place-behind}
+use Rattle.forms.proofs.DatesForward.{iso1-forward, iso2-forward, parse-non-iso-forward}
 use Rattle.dates.specs.declared.date.Date.{Date}
-use Rattle.times.proofs.Forward.{unless-forward, iso-forward}
-use Rattle.times.proofs.Forward.{parse-forward as time-forward}
+use Rattle.forms.proofs.TimesForward.{unless-forward, iso-forward}
+use Rattle.forms.proofs.TimesForward.{parse-forward as time-forward}
 use Rattle.times.specs.declared.time.Time.{Time}
-use Rattle.relative.proofs.Forward.{parse-forward as relative-forward}
+use Rattle.forms.proofs.RelativeForward.{parse-forward as relative-forward}
 use Rattle.items.specs.Combined.{unstopped, attempt, skip-space, separator, starts-with-meridiem, unless-meridiem, iso-alone, combined-time, parse-time-after-date}
 use Rattle.items.specs.Items.{date-time-item, dated-item, iso-date, iso-item, date-item, time-item, relative-item, time-or-relative, other-item, parse-item}
 
 attempt-forward : {A : Type 0} (p : Reader A) → Forward p → Forward (attempt p)
 attempt-forward {A = A} p h text at = go (p text at) (h text at)
@@ -21,7 +23,7 @@ attempt-forward {A = A} p h text at = go (p text at) (h text at)
     go : (a : Answer A) → Ends text at a → Ends text at (unstopped a)
     go (matched v n) e = e
     go none e = e
-    go stop e = λ v n k. let z : _≡_ {A = ℕ} 0 1 = cc in (omega arith, λ l. omega arith)
+    go stop e = none-ends text at
 
 skip-space-forward : Forward skip-space
 skip-space-forward text at = λ v n e. let z : n ≡ space text at = cc in rw z (space-onward text at)
@@ -59,3 +61,7 @@ other-item-forward =
 pub parse-item-forward : Forward parse-item
 unfolding parse-item
 parse-item-forward = or-forward _ _ iso-item-forward other-item-forward
+
+-- Where the text goes on with an item, the next place is behind it: all that is left is what the item leaves.
+pub next-place : {l rest : List ℕ} {v : Item} → Reads parse-item l v rest → (text : List ℕ) (at : ℕ) → at ≤ length text → drop at text ≡ l → parse-item text at ≡ matched v (length text - length rest)
+next-place = place-behind parse-item-forward
