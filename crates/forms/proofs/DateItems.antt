@@ -33,8 +33,8 @@ module _ (bs : List ℕ) (b : all blank bs ≡ true) where
   unfolding iso-date
   year-month-day m d a h f = iso-date-alone (first _ (iso1-read (blanks bs b (number-still _ (a .number))) m d a h)) f
 
--- digits in a row, the last two the day and the two in front of them the month. Behind it stands no digit, no time, and nothing that makes the
--- row the year of another date (`number-no-iso1`: no hyphen; `one-hyphen-no-iso1`: one hyphen and a number alone). No blank stands in front.
+-- digits in a row, the last two the day and the two in front of them the month. Behind it stands no digit, no time, and nothing that makes
+-- the row the year of another date (no hyphen, `number-no-iso1`, or one and a number alone, `one-hyphen-no-iso1`). In front no blank.
 pub year-month-day-row : (ys ms ds : List ℕ) {rest : List ℕ} → length ms ≡ 2 → length ds ≡ 2 → Number ms → Number ds → Year ys (decimal ms) (decimal ds) → digit (head rest) ≡ false
     → Fails iso1 ((ys ++ (ms ++ ds)) ++ rest) → Fails (parse-time-after-date (inYear ys (decimal ms) (decimal ds))) rest
     → Reads parse-item ((ys ++ (ms ++ ds)) ++ rest) (item.Date (inYear ys (decimal ms) (decimal ds))) rest

@@ -163,7 +163,7 @@ module _ {w : List ℕ} (p : OtherWord w) {f : ℤ → Relative} {given : ℤ �
         let q = ordinal-other m in
         word-item as′ a _ q e (ordinal-form d ends bs b as′ a u (bytes (o .0)) (o .1) (record { long = q .long; letters = q .letters; ends = e }) (ordinal-words m) g)
 
-    -- `3 years`, `-3 years ago`, for every unit but seconds: digits that are a date would be read first, where no blank stands in front of them
+    -- `3 years`, `-3 years ago`, for every unit but seconds. Digits that are a date would be read first, where no blank stands in front.
     module _ (u : LongUnit w f given) {ds : List ℕ} (n : Number ds) (small : decimal ds ≤ 2147483647) where
       pub number-and-unit : (as′ ≡ [] → glued ds ≡ false) → given (turned ago (pos (decimal ds))) → Reads parse-item (as′ ++ (ds ++ (bs ++ (w ++ l)))) (item.Relative (f (turned ago (pos (decimal ds))))) rest
       number-and-unit k g = number-item bs b l p ends as′ a n k (unsigned-form d ends bs b as′ a u n small g)

@@ -58,8 +58,8 @@ module _ (bs : List ℕ) (b : all blank bs ≡ true) where
 -- ---- the items
 
 module _ (bs : List ℕ) (b : all blank bs ≡ true) {hs ms l m′ rest : List ℕ} (h : Number hs) (m : Number ms) where
-  -- `20:02`, `20:02:00.5`, each with a correction or without one. Behind the minutes stands no digit, behind the seconds of an hour up to 12 neither am
-  -- nor pm.
+  -- `20:02`, `20:02:00.5`, each with a correction or without one. Behind the minutes stands no digit, and behind the seconds, where the hour
+  -- is 12 at most, neither am nor pm.
   pub time-24 : decimal hs < 24 → decimal ms < 60 → digit (head l) ≡ false → {v : SecNsec} → Reads optional-second l v m′ → {o : TimeOffset} → Reads optional-correction m′ o rest → (decimal hs ≤ 12 → Fails meridiem m′)
       → Reads parse-item (bs ++ (hs ++ (58 ∷ (ms ++ l)))) (item.Time (record { hour = decimal hs; minute = decimal ms; second = v .sec; nanosecond = v .nsec; offset = o })) rest
   time-24 hour minute d s c a =
