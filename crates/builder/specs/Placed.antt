@@ -20,3 +20,17 @@ refusal n at >> q = refusal n at
 abbrev pub placed : {A : Type 0} → ℕ → Outcome A → Placed A
 placed at (accepted a) = fine a
 placed at (refused n) = refusal n at
+
+-- the number and the place of an answer: 0 where it is a value
+abbrev pub numberOf : {A : Type 0} → Placed A → ℕ
+numberOf (fine a) = 0
+numberOf (refusal n at) = n
+
+abbrev pub placeOf : {A : Type 0} → Placed A → ℕ
+placeOf (fine a) = 0
+placeOf (refusal n at) = at
+
+-- the value of an answer, and in a refusal the blank one
+abbrev pub valueOr : {A : Type 0} → A → Placed A → A
+valueOr blank (fine a) = a
+valueOr blank (refusal n at) = blank

@@ -1,3 +1,4 @@
 pub mod Written
 pub mod Built
 pub mod Texts
+pub mod Places

@@ -4,6 +4,8 @@ use lib.IntN.{ℤ, pos}
 use Rattle.extended.specs.Outcome.{Outcome, number, valueOr}
 use Rattle.extended.specs.Extended.{blank}
 use Rattle.extended.specs.declared.ExtendedDateTime.{ExtendedDateTime}
+use Rattle.builder.specs.Placed as placed
+use Rattle.builder.specs.Placed.{Placed, numberOf, placeOf}
 use Rattle.seqtullo.specs.declared.Answer.{Answer}
 use Rattle.seqtullo.specs.declared.Moment.{Moment}
 use Rattle.seqtullo.specs.declared.Number.{Number}
@@ -11,6 +13,10 @@ use Rattle.seqtullo.specs.declared.Number.{Number}
 -- "0 is a record. Else the record is blank: eight zeros"; a number from 9 to 18 has place 0
 unfoldable pub recordAnswer : Outcome ExtendedDateTime → Answer
 recordAnswer o = record { number = number o; place = 0; «record» = valueOr blank o }
+
+-- the same of an answer that has a place
+unfoldable pub placedAnswer : Placed ExtendedDateTime → Answer
+placedAnswer p = record { number = numberOf p; place = placeOf p; «record» = placed.valueOr blank p }
 
 -- "where a length, a moment or another number was wanted, it is 0"
 unfoldable pub momentAnswer : Outcome ℤ → Moment

@@ -5,7 +5,12 @@ ghost use lib.ListN.{length};
 ghost use Rattle.extended.specs.Calendar.{monthDays};
 ghost use Rattle.extended.specs.Extended.{madeOf, secondsOf, countOf, make, date, time, accept, fromUnixSeconds, unixSeconds, addDays, addHours, addMinutes, addSeconds, addYears, addMonths, weekdayMonday0, dayOfYear};
 ghost use Rattle.writer.specs.Writer.{written, bytesOf, writtenAnswer, over};
-ghost use Rattle.seqtullo.specs.Hosts.{recordAnswer, momentAnswer, numberAnswer};
+ghost use Prim.Native.Nat.{_≤_};
+ghost use Rattle.builder.specs.Placed.{placeOf};
+ghost use Rattle.builder.specs.Building.{builtOf};
+ghost use Rattle.reading.specs.Reading.{readText};
+ghost use Rattle.seqtullo.specs.Hosts.{recordAnswer, momentAnswer, numberAnswer, placedAnswer};
+use builder::building::Built;
 use extended::DateParts;
 use extended::DayCount;
 use extended::ExtendedDateTime;
@@ -181,6 +186,33 @@ pub extern "C" fn seqtullo_days_in_month(year: u32, month: u8) -> u8
     ensures { λ r. ⌜ r ≡ monthDays year month ⌝ }
 {
     extended::days_in_month(year, month)
+}
+
+// Refusals from 2 to 8 have a place: a byte's index for 2 to 4, an item's for 5 to 8.
+fn placed_answer(built: Built) -> Answer
+    requires { ⌜ placeOf (builtOf built) ≤ 4096 ⌝ }
+    ensures { λ r. ⌜ r ≡ placedAnswer (builtOf built) ⌝ }
+{
+    match built {
+        Built::Record(record) => Answer {
+            number: 0,
+            place: 0,
+            record: record,
+        },
+        Built::Refused(number, place) => Answer {
+            number: number,
+            place: place as u32,
+            record: ExtendedDateTime::blank(),
+        },
+    }
+}
+
+// Reads a text under a base.
+#[no_mangle]
+pub extern "C" fn seqtullo_read_text(text: &[u8], base: Record) -> Answer
+    ensures { λ r. ⌜ r ≡ placedAnswer (readText (now (text .entry)) base) ⌝ }
+{
+    placed_answer(reading::read_text(text, base))
 }
 
 // Writes the record's text to the front of `out`; a refusal writes nothing.
