@@ -2,3 +2,4 @@ pub mod Written
 pub mod Built
 pub mod Texts
 pub mod Places
+pub mod Refusals
