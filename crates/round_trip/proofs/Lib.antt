@@ -3,3 +3,4 @@ pub mod Built
 pub mod Texts
 pub mod Places
 pub mod Refusals
+pub mod Accepted
