@@ -91,7 +91,7 @@ impl DateTimeBuilder {
         }
     }
 
-    pub fn set_date(self, date: Date) -> Set
+    pub(crate) fn set_date(self, date: Date) -> Set
         ensures { λ r. ⌜ setOf r ≡ setDate self date ⌝ }
     {
         let given = self.date;
@@ -110,7 +110,7 @@ impl DateTimeBuilder {
         })
     }
 
-    pub fn set_time(self, time: Time) -> Set
+    pub(crate) fn set_time(self, time: Time) -> Set
         ensures { λ r. ⌜ setOf r ≡ setTime self time ⌝ }
     {
         let given = self.time;
@@ -133,7 +133,7 @@ impl DateTimeBuilder {
         })
     }
 
-    pub fn set_weekday(self, weekday: Weekday) -> Set
+    pub(crate) fn set_weekday(self, weekday: Weekday) -> Set
         ensures { λ r. ⌜ setOf r ≡ setWeekday self weekday ⌝ }
     {
         let given = self.weekday;
@@ -153,7 +153,7 @@ impl DateTimeBuilder {
     }
 
     // The Rust's `set_offset` and `set_local_zone`: both take the one place of a zone.
-    pub fn set_zone(self, zone: GivenZone) -> Set
+    pub(crate) fn set_zone(self, zone: GivenZone) -> Set
         ensures { λ r. ⌜ setOf r ≡ setZone self zone ⌝ }
     {
         let given = self.zone;
@@ -183,7 +183,7 @@ impl DateTimeBuilder {
     }
 
     // A pure number is the year of a date that has none, or else a time. Its digits stand in `digits`.
-    pub fn set_pure(self, digits: &[u8], pure: Pure) -> Set
+    pub(crate) fn set_pure(self, digits: &[u8], pure: Pure) -> Set
         ensures { λ r. ⌜ setOf r ≡ setPure (lowered (now (digits .entry))) self pure ⌝ }
     {
         let given = self.date;

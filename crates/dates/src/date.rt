@@ -194,7 +194,7 @@ fn literal(s: &[u8], at: usize) -> ReadDate
 }
 
 // The European `14.11.2022`, or `14.11.` without a year.
-pub fn dotted(s: &[u8], at: usize) -> ReadDate
+pub(crate) fn dotted(s: &[u8], at: usize) -> ReadDate
     ensures { λ r. ⌜ dateAnswer r ≡ dotted (lowered (now (s .entry))) at ⌝ }
 {
     let ReadU8::Match(day, at) = primitive::spaced_u8(s, at) else {
@@ -264,7 +264,7 @@ fn u8_from_str(s: &[u8], from: usize, to: usize) -> ReadU8
 }
 
 // `2022/11/14`, `11/14/2022` or `11/14`.
-pub fn us(s: &[u8], at: usize) -> ReadDate
+pub(crate) fn us(s: &[u8], at: usize) -> ReadDate
     ensures { λ r. ⌜ dateAnswer r ≡ us (lowered (now (s .entry))) at ⌝ }
 {
     let ReadDigits::Match(from, to) = crate::year::year_str(s, at) else {
@@ -325,7 +325,7 @@ fn us_date(s: &[u8], at: usize, from: usize, to: usize, number: u8, last: ReadYe
 }
 
 // `14 November 2022`, `14 Nov 2022`, `14nov2022`, `14-nov-2022`, `14-nov2022`, `14nov-2022`, `14 Nov`.
-pub fn literal1(s: &[u8], at: usize) -> ReadDate
+pub(crate) fn literal1(s: &[u8], at: usize) -> ReadDate
     ensures { λ r. ⌜ dateAnswer r ≡ literal1 (lowered (now (s .entry))) at ⌝ }
 {
     let ReadU8::Match(day, at) = primitive::spaced_u8(s, at) else {
@@ -338,7 +338,7 @@ pub fn literal1(s: &[u8], at: usize) -> ReadDate
 }
 
 // `November 14, 2022`, `Nov 14, 2022`, `Nov 14 2022`, `Nov 14`.
-pub fn literal2(s: &[u8], at: usize) -> ReadDate
+pub(crate) fn literal2(s: &[u8], at: usize) -> ReadDate
     ensures { λ r. ⌜ dateAnswer r ≡ literal2 (lowered (now (s .entry))) at ⌝ }
 {
     let ReadU8::Match(month, at) = spaced_month(s, at) else {
@@ -351,7 +351,7 @@ pub fn literal2(s: &[u8], at: usize) -> ReadDate
 }
 
 // `November-14-2022` and `Nov-14-2022`. Unlike in `literal2` the year is always there.
-pub fn literal3(s: &[u8], at: usize) -> ReadDate
+pub(crate) fn literal3(s: &[u8], at: usize) -> ReadDate
     ensures { λ r. ⌜ dateAnswer r ≡ literal3 (lowered (now (s .entry))) at ⌝ }
 {
     let ReadU8::Match(month, at) = spaced_month(s, at) else {
@@ -418,7 +418,7 @@ const MONTHS: [u8; 36] = [
 ];
 
 // The name of a month, behind space: `sept` is one, `sept.` is none.
-pub fn literal_month(s: &[u8], at: usize) -> ReadU8
+pub(crate) fn literal_month(s: &[u8], at: usize) -> ReadU8
     ensures { λ r. ⌜ u8Answer r ≡ literal-month (lowered (now (s .entry))) at ⌝ }
 {
     let start = primitive::space(s, at);

@@ -54,7 +54,7 @@ pub(crate) fn digit_count(s: &[u8], from: usize, to: usize) -> usize
 }
 
 // The digits of a year, behind space.
-pub fn year_str(s: &[u8], at: usize) -> ReadDigits
+pub(crate) fn year_str(s: &[u8], at: usize) -> ReadDigits
     ensures { λ r. ⌜ digitsAnswer (lowered (now (s .entry))) r ≡ year-str (lowered (now (s .entry))) at ⌝ }
 {
     let from = primitive::space(s, at);

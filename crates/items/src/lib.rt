@@ -132,7 +132,7 @@ pub fn parse_items(s: &[u8]) -> Items
     }
 }
 
-pub fn parse_item(s: &[u8], at: usize) -> ReadItem
+pub(crate) fn parse_item(s: &[u8], at: usize) -> ReadItem
     ensures { λ r. ⌜ itemAnswer r ≡ parse-item (lowered (now (s .entry))) at ⌝ }
 {
     match iso_item(s, at) {

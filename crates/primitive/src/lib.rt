@@ -55,19 +55,19 @@ pub fn to_lower(b: u8) -> u8
     b
 }
 
-pub fn is_blank(b: u8) -> bool
+pub(crate) fn is_blank(b: u8) -> bool
     ensures { λ r. ⌜ r ≡ blank b ⌝ }
 {
     b == 32 || 9 <= b && b <= 13
 }
 
-pub fn is_digit(b: u8) -> bool
+pub(crate) fn is_digit(b: u8) -> bool
     ensures { λ r. ⌜ r ≡ digit b ⌝ }
 {
     48 <= b && b <= 57
 }
 
-pub fn is_letter(b: u8) -> bool
+pub(crate) fn is_letter(b: u8) -> bool
     ensures { λ r. ⌜ r ≡ letter b ⌝ }
 {
     97 <= b && b <= 122
@@ -166,7 +166,7 @@ fn comment(s: &[u8], at: usize) -> ReadPlace
 }
 
 // A number of at most `max`.
-pub fn dec_uint(s: &[u8], at: usize, max: u64) -> ReadU64
+pub(crate) fn dec_uint(s: &[u8], at: usize, max: u64) -> ReadU64
     ensures { λ r. ⌜ u64Answer r ≡ dec-uint max (lowered (now (s .entry))) at ⌝ }
 {
     let ReadPlace::Match(end) = dec_uint_str(s, at) else {
@@ -175,7 +175,7 @@ pub fn dec_uint(s: &[u8], at: usize, max: u64) -> ReadU64
     parse_uint(s, at, end, max)
 }
 
-pub fn dec_u8(s: &[u8], at: usize) -> ReadU8
+pub(crate) fn dec_u8(s: &[u8], at: usize) -> ReadU8
     ensures { λ r. ⌜ u8Answer r ≡ dec-uint 255 (lowered (now (s .entry))) at ⌝ }
 {
     let ReadU64::Match(v, next) = dec_uint(s, at, 255) else {
@@ -184,7 +184,7 @@ pub fn dec_u8(s: &[u8], at: usize) -> ReadU8
     ReadU8::Match(v as u8, next)
 }
 
-pub fn dec_u32(s: &[u8], at: usize) -> ReadU32
+pub(crate) fn dec_u32(s: &[u8], at: usize) -> ReadU32
     ensures { λ r. ⌜ u32Answer r ≡ dec-uint 4294967295 (lowered (now (s .entry))) at ⌝ }
 {
     let ReadU64::Match(v, next) = dec_uint(s, at, 4294967295) else {
@@ -193,7 +193,7 @@ pub fn dec_u32(s: &[u8], at: usize) -> ReadU32
     ReadU32::Match(v as u32, next)
 }
 
-pub fn dec_u64(s: &[u8], at: usize) -> ReadU64
+pub(crate) fn dec_u64(s: &[u8], at: usize) -> ReadU64
     ensures { λ r. ⌜ u64Answer r ≡ dec-uint 18446744073709551615 (lowered (now (s .entry))) at ⌝ }
 {
     dec_uint(s, at, 18446744073709551615)
@@ -206,7 +206,7 @@ pub fn spaced_u8(s: &[u8], at: usize) -> ReadU8
     dec_u8(s, space(s, at))
 }
 
-pub fn spaced_u32(s: &[u8], at: usize) -> ReadU32
+pub(crate) fn spaced_u32(s: &[u8], at: usize) -> ReadU32
     ensures { λ r. ⌜ u32Answer r ≡ spaced (dec-uint 4294967295) (lowered (now (s .entry))) at ⌝ }
 {
     dec_u32(s, space(s, at))
@@ -302,7 +302,7 @@ pub fn plus_or_minus(s: &[u8], at: usize) -> ReadSign
 }
 
 // A plus or minus.
-pub fn sign(s: &[u8], at: usize) -> ReadSign
+pub(crate) fn sign(s: &[u8], at: usize) -> ReadSign
     ensures { λ r. ⌜ signAnswer r ≡ sign (lowered (now (s .entry))) at ⌝ }
 {
     if let ReadPlace::Match(next) = byte(s, at, 43) {

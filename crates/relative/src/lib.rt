@@ -47,7 +47,7 @@ pub fn parse(s: &[u8], at: usize) -> ReadRelative
 }
 
 // Seconds in digits, with a sign or without one.
-pub fn seconds(s: &[u8], at: usize) -> ReadRelative
+pub(crate) fn seconds(s: &[u8], at: usize) -> ReadRelative
     ensures { λ r. ⌜ relativeAnswer r ≡ seconds (lowered (now (s .entry))) at ⌝ }
 {
     if let ReadSign::Match(negative, next) = primitive::plus_or_minus(s, at) {
@@ -116,7 +116,7 @@ fn rounded(negative: bool, sec: u64, nsec: u32) -> Relative
 }
 
 // A unit of time with an ordinal in front of it, or 1 where there is none. An ordinal that was read is kept.
-pub fn displacement(s: &[u8], at: usize) -> ReadRelative
+pub(crate) fn displacement(s: &[u8], at: usize) -> ReadRelative
     ensures { λ r. ⌜ relativeAnswer r ≡ displacement (lowered (now (s .entry))) at ⌝ }
 {
     if let ReadI32::Match(n, next) = primitive::ordinal::ordinal(s, at) {
@@ -206,7 +206,7 @@ pub struct Towards {
 }
 
 // `ago` or `hence`, behind space; forward where there is neither. What stands behind the word is not asked.
-pub fn direction(s: &[u8], at: usize) -> Towards
+pub(crate) fn direction(s: &[u8], at: usize) -> Towards
     ensures { λ r. ⌜ matched (r .ago) (r .next) ≡ direction (lowered (now (s .entry))) at ⌝ }
 {
     if let ReadPlace::Match(next) = primitive::spaced_tag(s, at, b"ago") {

@@ -97,7 +97,7 @@ impl Offset {
 }
 
 // Whether hours and minutes are those of an offset that is read: the Rust's `try_from`.
-pub fn in_range(hours: u64, minutes: u64) -> bool
+pub(crate) fn in_range(hours: u64, minutes: u64) -> bool
     ensures { λ r. ⌜ r ≡ inRange hours minutes ⌝ }
 {
     if 24 < hours {
@@ -132,7 +132,7 @@ fn offset_of(negative: bool, hours: u64, minutes: u64, next: usize) -> ReadOffse
 
 // The correction that follows a time of day. A unit of time behind it changes nothing: `12:00 +3 hours` is 12:00 at +03:00, and `hours`.
 // A number with a fraction is no correction: `12:00 +1.5 seconds`.
-pub fn time_zone_correction(s: &[u8], at: usize) -> ReadOffset
+pub(crate) fn time_zone_correction(s: &[u8], at: usize) -> ReadOffset
     ensures { λ r. ⌜ offsetAnswer r ≡ time-zone-correction (lowered (now (s .entry))) at ⌝ }
 {
     if let ReadU32::Match(_, _) = signed_fraction(s, at) {
@@ -160,7 +160,7 @@ fn signed_fraction(s: &[u8], at: usize) -> ReadU32
 
 // An offset, unless a relative item stands there: `+8 years` is no offset. The relative item is looked for only where there is an
 // offset, or one out of range.
-pub fn timezone_offset(s: &[u8], start: usize) -> ReadOffset
+pub(crate) fn timezone_offset(s: &[u8], start: usize) -> ReadOffset
     ensures { λ r. ⌜ offsetAnswer r ≡ timezone-offset (lowered (now (s .entry))) start ⌝ }
 {
     match any_offset(s, start) {

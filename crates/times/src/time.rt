@@ -157,7 +157,7 @@ fn optional_correction(s: &[u8], at: usize) -> ReadTimeOffset
 }
 
 // A time that ends with am or pm.
-pub fn am_pm_time(s: &[u8], at: usize) -> ReadTime
+pub(crate) fn am_pm_time(s: &[u8], at: usize) -> ReadTime
     ensures { λ r. ⌜ timeAnswer r ≡ am-pm-time (lowered (now (s .entry))) at ⌝ }
 {
     let ReadU8::Match(hour, at) = hour12(s, at) else {
@@ -192,7 +192,7 @@ fn hour_of(hour: u8, pm: bool) -> u8
 }
 
 // am or pm, behind space.
-pub fn meridiem(s: &[u8], at: usize) -> ReadMeridiem
+pub(crate) fn meridiem(s: &[u8], at: usize) -> ReadMeridiem
     ensures { λ r. ⌜ meridiemAnswer r ≡ meridiem (lowered (now (s .entry))) at ⌝ }
 {
     if let ReadPlace::Match(next) = primitive::spaced_tag(s, at, b"am") {
@@ -239,21 +239,21 @@ fn optional_second(s: &[u8], at: usize) -> FoundSecond
 }
 
 // A number of hours from 0 to 23.
-pub fn hour24(s: &[u8], at: usize) -> ReadU8
+pub(crate) fn hour24(s: &[u8], at: usize) -> ReadU8
     ensures { λ r. ⌜ u8Answer r ≡ hour24 (lowered (now (s .entry))) at ⌝ }
 {
     below(s, at, 24)
 }
 
 // A number of hours from 0 to 12.
-pub fn hour12(s: &[u8], at: usize) -> ReadU8
+pub(crate) fn hour12(s: &[u8], at: usize) -> ReadU8
     ensures { λ r. ⌜ u8Answer r ≡ hour12 (lowered (now (s .entry))) at ⌝ }
 {
     below(s, at, 13)
 }
 
 // A number of minutes from 0 to 59.
-pub fn minute(s: &[u8], at: usize) -> ReadU8
+pub(crate) fn minute(s: &[u8], at: usize) -> ReadU8
     ensures { λ r. ⌜ u8Answer r ≡ minute (lowered (now (s .entry))) at ⌝ }
 {
     below(s, at, 60)
@@ -274,7 +274,7 @@ fn below(s: &[u8], at: usize, limit: u8) -> ReadU8
 }
 
 // A number of seconds from 0 to 59, with a fraction or without one.
-pub fn second(s: &[u8], at: usize) -> ReadSecNsec
+pub(crate) fn second(s: &[u8], at: usize) -> ReadSecNsec
     ensures { λ r. ⌜ secNsecAnswer r ≡ second (lowered (now (s .entry))) at ⌝ }
 {
     let start = primitive::space(s, at);
