@@ -1,0 +1,88 @@
+// Numbers, read and written.
+ghost use Prim.Native.Nat.{_<_};
+
+// More than any text has of bytes or copies.
+const MANY: usize = 5000;
+
+// A decimal number with one digit more; one that grows too large stays so.
+pub fn with_digit(number: usize, byte: u8) -> usize {
+    if byte < b'0' {
+        return MANY;
+    }
+    if byte > b'9' {
+        return MANY;
+    }
+    if number >= MANY {
+        return MANY;
+    }
+    number * 10 + (byte - b'0') as usize
+}
+
+// Where copies end that begin at `start`.
+pub fn end_of_copies(start: usize, width: usize, copies: usize) -> usize {
+    if start > MANY {
+        return usize::MAX;
+    }
+    if width > MANY {
+        return usize::MAX;
+    }
+    if copies > MANY {
+        return usize::MAX;
+    }
+    start + width * copies
+}
+
+// The byte that two hexadecimal digits write.
+pub fn hex_byte(high: u8, low: u8) -> u8 {
+    hex_value(high) * 16 + hex_value(low)
+}
+
+// The value of a hexadecimal digit; 0 for any other byte.
+fn hex_value(byte: u8) -> u8
+    ensures { λ r. ⌜ r < 16 ⌝ }
+{
+    if byte < b'0' {
+        return 0;
+    }
+    if byte <= b'9' {
+        return byte - b'0';
+    }
+    if byte < b'a' {
+        return 0;
+    }
+    if byte <= b'f' {
+        return byte - b'a' + 10;
+    }
+    0
+}
+
+// 2^63.
+const RAISE: u64 = 9223372036854775808;
+
+// A number with its sign, a plus too.
+pub fn print_signed(value: i64) {
+    let raised = integers::bias(value);
+    if raised < RAISE {
+        io::write_all(1, b"-");
+        io::print_decimal(1, RAISE - raised);
+        return;
+    }
+    io::write_all(1, b"+");
+    io::print_decimal(1, raised - RAISE);
+}
+
+pub fn print(value: u32) {
+    io::print_decimal(1, value as u64);
+}
+
+// A number in two digits at least.
+pub fn print_two(value: u8) {
+    if value < 10 {
+        io::write_all(1, b"0");
+    }
+    io::print_decimal(1, value as u64);
+}
+
+pub fn widened(value: i32) -> i64 {
+    value as i64
+}
