@@ -1,15 +1,13 @@
 // The items of a text, written without the line's end: 0 and the items with `; ` between them, or the number and the place of a refusal.
 //
 // A date is `2024-03-13`, or `03-13` without its year, whose digits are as few as it needs. A time is `09:30:00`, then its nanoseconds unless they
-// are 0 and its offset if it has one: `09:30:00 500000000ns +02:00`. A relative item is `relative`, its unit and its amount, as `days -1`.
+// are 0 and its offset if it has one: `09:30:00 500000000ns +02:00`. A relative item is `relative`, its unit and its amount, as `days -1`. Of the
+// items that no text has, the name of the kind is written.
 use crate::numbers;
 use dates::date::Date;
 use dates::date::DateYear;
-use items::Day;
 use items::Item;
 use items::Items;
-use items::Pure;
-use items::Weekday;
 use items::combined::DateTime;
 use relative::Relative;
 use times::offset::Offset;
@@ -22,7 +20,7 @@ pub fn print_items(items: Items) {
         print_list(items);
         return;
     }
-    numbers::print(items.number);
+    io::print_decimal(1, items.number as u64);
     io::write_all(1, b" ");
     io::print_decimal(1, items.place as u64);
 }
@@ -53,14 +51,24 @@ fn print_separator(i: usize) {
 fn print_item(item: Item) {
     match item {
         Item::DateTime(v) => print_date_time(v),
-        Item::Date(date) => print_date_item(date),
-        Item::Time(time) => print_time_item(time),
-        Item::Weekday(weekday) => print_weekday(weekday),
+        Item::Date(date) => {
+            io::write_all(1, b"date ");
+            print_date(date);
+        }
+        Item::Time(time) => {
+            io::write_all(1, b"time ");
+            print_time(time);
+        }
         Item::Relative(v) => print_relative(v),
-        Item::Offset(offset) => print_zone(offset),
-        Item::LocalZone => print_local_zone(),
-        Item::Pure(pure) => print_pure(pure),
+        Item::Weekday(_) => print_bytes(b"weekday"),
+        Item::Offset(_) => print_bytes(b"offset"),
+        Item::LocalZone => print_bytes(b"local zone"),
+        Item::Pure(_) => print_bytes(b"pure number"),
     }
+}
+
+pub fn print_bytes(bytes: &[u8]) {
+    io::write_all(1, bytes);
 }
 
 fn print_date_time(v: DateTime) {
@@ -68,16 +76,6 @@ fn print_date_time(v: DateTime) {
     print_date(v.date);
     io::write_all(1, b" ");
     print_time(v.time);
-}
-
-fn print_date_item(date: Date) {
-    io::write_all(1, b"date ");
-    print_date(date);
-}
-
-fn print_time_item(time: Time) {
-    io::write_all(1, b"time ");
-    print_time(time);
 }
 
 fn print_date(date: Date) {
@@ -91,7 +89,7 @@ fn print_date(date: Date) {
 fn print_year(year: DateYear) {
     match year {
         DateYear::Given(value) => {
-            numbers::print(value);
+            io::print_decimal(1, value as u64);
             io::write_all(1, b"-");
         }
         DateYear::Absent => {}
@@ -106,7 +104,10 @@ fn print_time(time: Time) {
     numbers::print_two(time.second);
     print_nanoseconds(time.nanosecond);
     let offset = time.offset;
-    print_time_offset(offset);
+    match offset {
+        TimeOffset::Given(value) => print_offset(value),
+        TimeOffset::NotGiven => {}
+    }
 }
 
 fn print_nanoseconds(nanosecond: u32) {
@@ -114,25 +115,15 @@ fn print_nanoseconds(nanosecond: u32) {
         return;
     }
     io::write_all(1, b" ");
-    numbers::print(nanosecond);
+    io::print_decimal(1, nanosecond as u64);
     io::write_all(1, b"ns");
-}
-
-fn print_time_offset(offset: TimeOffset) {
-    match offset {
-        TimeOffset::Given(value) => {
-            io::write_all(1, b" ");
-            print_offset(value);
-        }
-        TimeOffset::NotGiven => {}
-    }
 }
 
 fn print_offset(offset: Offset) {
     if offset.negative {
-        io::write_all(1, b"-");
+        io::write_all(1, b" -");
     } else {
-        io::write_all(1, b"+");
+        io::write_all(1, b" +");
     }
     numbers::print_two(offset.hours);
     io::write_all(1, b":");
@@ -140,65 +131,21 @@ fn print_offset(offset: Offset) {
 }
 
 fn print_relative(v: Relative) {
-    io::write_all(1, b"relative ");
     match v {
-        Relative::Years(n) => print_amount(b"years ", n),
-        Relative::Months(n) => print_amount(b"months ", n),
-        Relative::Days(n) => print_amount(b"days ", n),
-        Relative::Hours(n) => print_amount(b"hours ", n),
-        Relative::Minutes(n) => print_amount(b"minutes ", n),
-        Relative::Seconds(n, nanosecond) => print_seconds(n, nanosecond),
+        Relative::Years(n) => print_amount(b"relative years ", n),
+        Relative::Months(n) => print_amount(b"relative months ", n),
+        Relative::Days(n) => print_amount(b"relative days ", n),
+        Relative::Hours(n) => print_amount(b"relative hours ", n),
+        Relative::Minutes(n) => print_amount(b"relative minutes ", n),
+        Relative::Seconds(n, nanosecond) => {
+            io::write_all(1, b"relative seconds ");
+            numbers::print_signed(n);
+            print_nanoseconds(nanosecond);
+        }
     }
 }
 
 fn print_amount(unit: &[u8], n: i32) {
     io::write_all(1, unit);
     numbers::print_signed(numbers::widened(n));
-}
-
-fn print_seconds(n: i64, nanosecond: u32) {
-    io::write_all(1, b"seconds ");
-    numbers::print_signed(n);
-    print_nanoseconds(nanosecond);
-}
-
-// The kinds that no text has.
-
-fn print_weekday(weekday: Weekday) {
-    io::write_all(1, b"weekday ");
-    let day = weekday.day;
-    print_day(day);
-    numbers::print_signed(numbers::widened(weekday.offset));
-}
-
-fn print_day(day: Day) {
-    match day {
-        Day::Monday => print_name(b"monday "),
-        Day::Tuesday => print_name(b"tuesday "),
-        Day::Wednesday => print_name(b"wednesday "),
-        Day::Thursday => print_name(b"thursday "),
-        Day::Friday => print_name(b"friday "),
-        Day::Saturday => print_name(b"saturday "),
-        Day::Sunday => print_name(b"sunday "),
-    }
-}
-
-fn print_name(name: &[u8]) {
-    io::write_all(1, name);
-}
-
-fn print_zone(offset: Offset) {
-    io::write_all(1, b"zone ");
-    print_offset(offset);
-}
-
-fn print_local_zone() {
-    io::write_all(1, b"local zone");
-}
-
-fn print_pure(pure: Pure) {
-    io::write_all(1, b"pure ");
-    numbers::print(pure.start as u32);
-    io::write_all(1, b" ");
-    numbers::print(pure.length as u32);
 }

@@ -2,8 +2,8 @@
 // derived by hand from the text of the Rust and of the manual, so a reader that departs from them fails the gate.
 //
 // A line is a text, a tab, and the reason why it is in the list, which is skipped; a line without a tab is a heading and is written as it is. In
-// a text, `\` and two hexadecimal digits are the byte of that number, and `{N:PART}` is N times PART. A text that is too long for the place it is
-// kept in is answered by 99, which is no text's answer.
+// a text, `{N}` is the byte of that number and `{N:PART}` is N times PART, which holds no brace. A text that is longer than 4096 bytes is answered by
+// 99, which is no text's answer.
 mod answers;
 mod numbers;
 mod standing;
@@ -21,29 +21,21 @@ fn reply(at: Standing, text: &[u8]) {
     let mode = at.mode;
     match mode {
         Mode::Reason => answers::print_items(items::parse_items(&text[0..length])),
-        Mode::Text => print_heading(&text[0..length]),
-        Mode::High => print_heading(&text[0..length]),
-        Mode::Low => print_heading(&text[0..length]),
-        Mode::Copies => print_heading(&text[0..length]),
+        Mode::Text => answers::print_bytes(&text[0..length]),
+        Mode::Number => answers::print_bytes(&text[0..length]),
     }
-}
-
-fn print_heading(text: &[u8]) {
-    io::write_all(1, text);
 }
 
 fn take_byte(byte: u8, at: Standing, text: &mut [u8]) -> Standing {
     if byte == b'\n' {
         reply(at, text);
         io::write_all(1, b"\n");
-        return standing::line_start();
+        return standing::behind(0);
     }
     let mode = at.mode;
     match mode {
         Mode::Text => at.text_byte(byte, text),
-        Mode::High => at.with_high(byte),
-        Mode::Low => at.put(numbers::hex_byte(at.high, byte), text),
-        Mode::Copies => at.copies_byte(byte),
+        Mode::Number => at.number_byte(byte, text),
         Mode::Reason => at,
     }
 }
@@ -60,7 +52,7 @@ fn take_bytes(bytes: &[u8], start: Standing, text: &mut [u8]) -> Standing {
 
 // Nothing says that the input ends, so the turns are counted down from a number that no run uses up.
 fn run(chunk: &mut [u8], text: &mut [u8]) {
-    let mut at = standing::line_start();
+    let mut at = standing::behind(0);
     let mut turns = u64::MAX;
     while turns > 0 {
         let n = io::read_full(0, chunk);

@@ -1,5 +1,4 @@
 // Numbers, read and written.
-ghost use Prim.Native.Nat.{_<_};
 
 // More than any text has of bytes or copies.
 const MANY: usize = 5000;
@@ -18,6 +17,14 @@ pub fn with_digit(number: usize, byte: u8) -> usize {
     number * 10 + (byte - b'0') as usize
 }
 
+// The byte of that number; the last one for a larger number.
+pub fn as_byte(number: usize) -> u8 {
+    if number > 255 {
+        return 255;
+    }
+    number as u8
+}
+
 // Where copies end that begin at `start`.
 pub fn end_of_copies(start: usize, width: usize, copies: usize) -> usize {
     if start > MANY {
@@ -30,30 +37,6 @@ pub fn end_of_copies(start: usize, width: usize, copies: usize) -> usize {
         return usize::MAX;
     }
     start + width * copies
-}
-
-// The byte that two hexadecimal digits write.
-pub fn hex_byte(high: u8, low: u8) -> u8 {
-    hex_value(high) * 16 + hex_value(low)
-}
-
-// The value of a hexadecimal digit; 0 for any other byte.
-fn hex_value(byte: u8) -> u8
-    ensures { λ r. ⌜ r < 16 ⌝ }
-{
-    if byte < b'0' {
-        return 0;
-    }
-    if byte <= b'9' {
-        return byte - b'0';
-    }
-    if byte < b'a' {
-        return 0;
-    }
-    if byte <= b'f' {
-        return byte - b'a' + 10;
-    }
-    0
 }
 
 // 2^63.
@@ -69,10 +52,6 @@ pub fn print_signed(value: i64) {
     }
     io::write_all(1, b"+");
     io::print_decimal(1, raised - RAISE);
-}
-
-pub fn print(value: u32) {
-    io::print_decimal(1, value as u64);
 }
 
 // A number in two digits at least.

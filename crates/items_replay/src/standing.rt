@@ -3,11 +3,8 @@ use crate::numbers;
 
 pub enum Mode {
     Text,
-    // Behind a backslash: in front of the first and of the second hexadecimal digit.
-    High,
-    Low,
-    // Behind `{`, in the number of copies.
-    Copies,
+    // Behind `{`, in a number.
+    Number,
     // Behind the tab.
     Reason,
 }
@@ -16,32 +13,18 @@ pub struct Standing {
     pub mode: Mode,
     // The bytes of the text so far; more than there is room for once one did not fit.
     pub length: usize,
-    // The first hexadecimal digit of a byte.
-    pub high: u8,
-    // How many copies there will be of the part that begins at `start`.
+    // How many copies there will be of the part that begins at `start`; in a number, the number so far.
     copies: usize,
     start: usize,
 }
 
-// In front of a line.
-pub fn line_start() -> Standing {
+// Behind so many bytes of a text, and in no part that is copied.
+pub fn behind(length: usize) -> Standing {
     Standing {
         mode: Mode::Text,
-        length: 0,
-        high: 0,
+        length,
         copies: 0,
-        start: 0,
-    }
-}
-
-// A byte did not fit: nor does any behind it.
-fn too_long() -> Standing {
-    Standing {
-        mode: Mode::Text,
-        length: usize::MAX,
-        high: 0,
-        copies: 0,
-        start: 0,
+        start: length,
     }
 }
 
@@ -50,7 +33,6 @@ impl Standing {
         Standing {
             mode,
             length: self.length,
-            high: self.high,
             copies: self.copies,
             start: self.start,
         }
@@ -61,11 +43,8 @@ impl Standing {
         if byte == b'\t' {
             return self.with_mode(Mode::Reason);
         }
-        if byte == b'\\' {
-            return self.with_mode(Mode::High);
-        }
         if byte == b'{' {
-            return self.part(0);
+            return behind(self.length).with_mode(Mode::Number);
         }
         if byte == b'}' {
             return self.copied(text);
@@ -73,47 +52,32 @@ impl Standing {
         self.put(byte, text)
     }
 
-    // In front of a part, with the number of its copies so far.
-    fn part(self, copies: usize) -> Standing {
-        Standing {
-            mode: Mode::Copies,
-            length: self.length,
-            high: 0,
-            copies,
-            start: self.length,
-        }
-    }
-
-    // Behind a byte of the number of copies; a colon ends it.
-    pub fn copies_byte(self, byte: u8) -> Standing {
+    // Behind a byte of a number: a colon begins the part to copy, and a brace makes the number a byte.
+    pub fn number_byte(self, byte: u8, text: &mut [u8]) -> Standing {
         if byte == b':' {
             return self.with_mode(Mode::Text);
         }
-        self.part(numbers::with_digit(self.copies, byte))
-    }
-
-    // Behind the first hexadecimal digit.
-    pub fn with_high(self, byte: u8) -> Standing {
+        if byte == b'}' {
+            return behind(self.length).put(numbers::as_byte(self.copies), text);
+        }
         Standing {
-            mode: Mode::Low,
+            mode: Mode::Number,
             length: self.length,
-            high: byte,
-            copies: self.copies,
+            copies: numbers::with_digit(self.copies, byte),
             start: self.start,
         }
     }
 
     // Behind one byte more of the text.
-    pub fn put(self, byte: u8, text: &mut [u8]) -> Standing {
+    fn put(self, byte: u8, text: &mut [u8]) -> Standing {
         let length = self.length;
         if length >= text.len() {
-            return too_long();
+            return behind(usize::MAX);
         }
         text[length] = byte;
         Standing {
             mode: Mode::Text,
             length: length + 1,
-            high: 0,
             copies: self.copies,
             start: self.start,
         }
@@ -129,16 +93,10 @@ impl Standing {
         let width = length - start;
         let end = numbers::end_of_copies(start, width, self.copies);
         if end > text.len() {
-            return too_long();
+            return behind(usize::MAX);
         }
         copy(text, width, length, end);
-        Standing {
-            mode: Mode::Text,
-            length: end,
-            high: 0,
-            copies: 0,
-            start: end,
-        }
+        behind(end)
     }
 }
 

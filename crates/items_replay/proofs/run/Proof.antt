@@ -11,8 +11,8 @@ Inv-loop chunk₀ text₀ at₀ turns₀ chunk text at turns = (length chunk ≡
 abbrev μ-loop : tie.MeasureT-loop
 μ-loop chunk₀ text₀ at₀ turns₀ chunk text at turns = turns
 
-line-start-requires : tie.Need-line-start-requires Inv-loop μ-loop
-line-start-requires c κs = search needs
+behind-requires : tie.Need-behind-requires Inv-loop μ-loop
+behind-requires c κs = search needs
 
 loop-holds : tie.Need-loop-holds Inv-loop μ-loop
 loop-holds c = search needs
@@ -65,7 +65,7 @@ run-spec =
     (tie.spec
     Inv-loop
     μ-loop
-    line-start-requires
+    behind-requires
     loop-holds
     read-full-requires
     same-length
