@@ -14,7 +14,8 @@ use times::offset::Offset;
 use times::time::Time;
 use times::time::TimeOffset;
 
-pub fn print_items(items: Items) {
+pub fn print_items(text: &[u8]) {
+    let items = items::parse_items(text);
     if items.number == 0 {
         io::write_all(1, b"0");
         print_list(items);

@@ -20,7 +20,7 @@ fn reply(at: Standing, text: &[u8]) {
     }
     let mode = at.mode;
     match mode {
-        Mode::Reason => answers::print_items(items::parse_items(&text[0..length])),
+        Mode::Reason => answers::print_items(&text[0..length]),
         Mode::Text => answers::print_bytes(&text[0..length]),
         Mode::Number => answers::print_bytes(&text[0..length]),
     }
