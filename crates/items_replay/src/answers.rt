@@ -1,8 +1,9 @@
 // The items of a text, written without the line's end: 0 and the items with `; ` between them, or the number and the place of a refusal.
 //
-// A date is `2024-03-13`, or `03-13` without its year, whose digits are as few as it needs. A time is `09:30:00`, then its nanoseconds unless they
-// are 0 and its offset if it has one: `09:30:00 500000000ns +02:00`. A relative item is `relative`, its unit and its amount, as `days -1`. Of the
-// items that no text has, the name of the kind is written.
+// - `date 2024-03-13`, or `date 03-13` without a year, whose digits are as few as it needs;
+// - `time 09:30:00`, then its nanoseconds unless they are 0 and its offset if it has one: `time 09:30:00 500000000ns +02:00`;
+// - a date and a time in one item have `with` between them;
+// - `relative`, the unit and the amount, as `relative days -1`.
 use crate::numbers;
 use dates::date::Date;
 use dates::date::DateYear;
@@ -52,34 +53,29 @@ fn print_separator(i: usize) {
 fn print_item(item: Item) {
     match item {
         Item::DateTime(v) => print_date_time(v),
-        Item::Date(date) => {
-            io::write_all(1, b"date ");
-            print_date(date);
-        }
-        Item::Time(time) => {
-            io::write_all(1, b"time ");
-            print_time(time);
-        }
+        Item::Date(date) => print_date(date),
+        Item::Time(time) => print_time(time),
         Item::Relative(v) => print_relative(v),
-        Item::Weekday(_) => print_bytes(b"weekday"),
-        Item::Offset(_) => print_bytes(b"offset"),
-        Item::LocalZone => print_bytes(b"local zone"),
-        Item::Pure(_) => print_bytes(b"pure number"),
+        Item::Weekday(_) => print_other(),
+        Item::Offset(_) => print_other(),
+        Item::LocalZone => print_other(),
+        Item::Pure(_) => print_other(),
     }
 }
 
-pub fn print_bytes(bytes: &[u8]) {
-    io::write_all(1, bytes);
+// The kinds that no text has.
+fn print_other() {
+    io::write_all(1, b"other");
 }
 
 fn print_date_time(v: DateTime) {
-    io::write_all(1, b"datetime ");
     print_date(v.date);
-    io::write_all(1, b" ");
+    io::write_all(1, b" with ");
     print_time(v.time);
 }
 
 fn print_date(date: Date) {
+    io::write_all(1, b"date ");
     let year = date.year;
     print_year(year);
     numbers::print_two(date.month);
@@ -98,6 +94,7 @@ fn print_year(year: DateYear) {
 }
 
 fn print_time(time: Time) {
+    io::write_all(1, b"time ");
     numbers::print_two(time.hour);
     io::write_all(1, b":");
     numbers::print_two(time.minute);
@@ -132,21 +129,24 @@ fn print_offset(offset: Offset) {
 }
 
 fn print_relative(v: Relative) {
+    io::write_all(1, b"relative ");
     match v {
-        Relative::Years(n) => print_amount(b"relative years ", n),
-        Relative::Months(n) => print_amount(b"relative months ", n),
-        Relative::Days(n) => print_amount(b"relative days ", n),
-        Relative::Hours(n) => print_amount(b"relative hours ", n),
-        Relative::Minutes(n) => print_amount(b"relative minutes ", n),
-        Relative::Seconds(n, nanosecond) => {
-            io::write_all(1, b"relative seconds ");
-            numbers::print_signed(n);
-            print_nanoseconds(nanosecond);
-        }
+        Relative::Years(n) => print_amount(b"years ", n),
+        Relative::Months(n) => print_amount(b"months ", n),
+        Relative::Days(n) => print_amount(b"days ", n),
+        Relative::Hours(n) => print_amount(b"hours ", n),
+        Relative::Minutes(n) => print_amount(b"minutes ", n),
+        Relative::Seconds(n, nanosecond) => print_seconds(n, nanosecond),
     }
 }
 
 fn print_amount(unit: &[u8], n: i32) {
     io::write_all(1, unit);
     numbers::print_signed(numbers::widened(n));
+}
+
+fn print_seconds(n: i64, nanosecond: u32) {
+    io::write_all(1, b"seconds ");
+    numbers::print_signed(n);
+    print_nanoseconds(nanosecond);
 }

@@ -21,9 +21,13 @@ fn reply(at: Standing, text: &[u8]) {
     let mode = at.mode;
     match mode {
         Mode::Reason => answers::print_items(&text[0..length]),
-        Mode::Text => answers::print_bytes(&text[0..length]),
-        Mode::Number => answers::print_bytes(&text[0..length]),
+        Mode::Text => print_heading(&text[0..length]),
+        Mode::Number => {}
     }
+}
+
+fn print_heading(text: &[u8]) {
+    io::write_all(1, text);
 }
 
 fn take_byte(byte: u8, at: Standing, text: &mut [u8]) -> Standing {
