@@ -9,7 +9,6 @@ use dates::date::Date;
 use dates::date::DateYear;
 use items::Item;
 use items::Items;
-use items::combined::DateTime;
 use relative::Relative;
 use times::offset::Offset;
 use times::time::Time;
@@ -52,45 +51,31 @@ fn print_separator(i: usize) {
 
 fn print_item(item: Item) {
     match item {
-        Item::DateTime(v) => print_date_time(v),
+        Item::DateTime(v) => {
+            print_date(v.date);
+            io::write_all(1, b" with ");
+            print_time(v.time);
+        }
         Item::Date(date) => print_date(date),
         Item::Time(time) => print_time(time),
         Item::Relative(v) => print_relative(v),
-        Item::Weekday(_) => print_other(),
-        Item::Offset(_) => print_other(),
-        Item::LocalZone => print_other(),
-        Item::Pure(_) => print_other(),
+        // The kinds that no text has.
+        _ => {
+            io::write_all(1, b"other");
+        }
     }
-}
-
-// The kinds that no text has.
-fn print_other() {
-    io::write_all(1, b"other");
-}
-
-fn print_date_time(v: DateTime) {
-    print_date(v.date);
-    io::write_all(1, b" with ");
-    print_time(v.time);
 }
 
 fn print_date(date: Date) {
     io::write_all(1, b"date ");
     let year = date.year;
-    print_year(year);
+    if let DateYear::Given(value) = year {
+        io::print_decimal(1, value as u64);
+        io::write_all(1, b"-");
+    }
     numbers::print_two(date.month);
     io::write_all(1, b"-");
     numbers::print_two(date.day);
-}
-
-fn print_year(year: DateYear) {
-    match year {
-        DateYear::Given(value) => {
-            io::print_decimal(1, value as u64);
-            io::write_all(1, b"-");
-        }
-        DateYear::Absent => {}
-    }
 }
 
 fn print_time(time: Time) {
@@ -102,9 +87,8 @@ fn print_time(time: Time) {
     numbers::print_two(time.second);
     print_nanoseconds(time.nanosecond);
     let offset = time.offset;
-    match offset {
-        TimeOffset::Given(value) => print_offset(value),
-        TimeOffset::NotGiven => {}
+    if let TimeOffset::Given(value) = offset {
+        print_offset(value);
     }
 }
 
@@ -136,17 +120,15 @@ fn print_relative(v: Relative) {
         Relative::Days(n) => print_amount(b"days ", n),
         Relative::Hours(n) => print_amount(b"hours ", n),
         Relative::Minutes(n) => print_amount(b"minutes ", n),
-        Relative::Seconds(n, nanosecond) => print_seconds(n, nanosecond),
+        Relative::Seconds(n, nanosecond) => {
+            io::write_all(1, b"seconds ");
+            numbers::print_signed(n);
+            print_nanoseconds(nanosecond);
+        }
     }
 }
 
 fn print_amount(unit: &[u8], n: i32) {
     io::write_all(1, unit);
-    numbers::print_signed(numbers::widened(n));
-}
-
-fn print_seconds(n: i64, nanosecond: u32) {
-    io::write_all(1, b"seconds ");
-    numbers::print_signed(n);
-    print_nanoseconds(nanosecond);
+    numbers::print_signed(n as i64);
 }

@@ -3,7 +3,7 @@
 //
 // A line is a text, a tab, and the reason why it is in the list, which is skipped; a line without a tab is a heading and is written as it is. In
 // a text, `{N}` is the byte of that number and `{N:PART}` is N times PART, which holds no brace. A text that is longer than 4096 bytes is answered by
-// 99, which is no text's answer.
+// 99, which is no text's answer. The list has room for 65536 bytes.
 mod answers;
 mod numbers;
 mod standing;
@@ -19,15 +19,11 @@ fn reply(at: Standing, text: &[u8]) {
         return;
     }
     let mode = at.mode;
-    match mode {
-        Mode::Reason => answers::print_items(&text[0..length]),
-        Mode::Text => print_heading(&text[0..length]),
-        Mode::Number => {}
+    if let Mode::Reason = mode {
+        answers::print_items(&text[0..length]);
+        return;
     }
-}
-
-fn print_heading(text: &[u8]) {
-    io::write_all(1, text);
+    io::write_all(1, &text[0..length]);
 }
 
 fn take_byte(byte: u8, at: Standing, text: &mut [u8]) -> Standing {
@@ -44,32 +40,18 @@ fn take_byte(byte: u8, at: Standing, text: &mut [u8]) -> Standing {
     }
 }
 
-fn take_bytes(bytes: &[u8], start: Standing, text: &mut [u8]) -> Standing {
-    let mut at = start;
-    let mut i = 0usize;
-    while i < bytes.len() {
-        at = take_byte(bytes[i], at, text);
-        i += 1;
-    }
-    at
-}
-
-// Nothing says that the input ends, so the turns are counted down from a number that no run uses up.
-fn run(chunk: &mut [u8], text: &mut [u8]) {
+fn run(list: &mut [u8], text: &mut [u8]) {
+    let n = io::read_full(0, list);
     let mut at = standing::behind(0);
-    let mut turns = u64::MAX;
-    while turns > 0 {
-        let n = io::read_full(0, chunk);
-        if n == 0 {
-            return;
-        }
-        at = take_bytes(&chunk[0..n], at, text);
-        turns -= 1;
+    let mut i = 0usize;
+    while i < n {
+        at = take_byte(list[i], at, text);
+        i += 1;
     }
 }
 
 fn main() {
-    let mut chunk = io::buffer();
+    let mut list = io::large_buffer();
     let mut text = io::buffer();
-    run(&mut chunk, &mut text);
+    run(&mut list, &mut text);
 }

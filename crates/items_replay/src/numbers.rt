@@ -17,14 +17,6 @@ pub fn with_digit(number: usize, byte: u8) -> usize {
     number * 10 + (byte - b'0') as usize
 }
 
-// The byte of that number; the last one for a larger number.
-pub fn as_byte(number: usize) -> u8 {
-    if number > 255 {
-        return 255;
-    }
-    number as u8
-}
-
 // Where copies end that begin at `start`.
 pub fn end_of_copies(start: usize, width: usize, copies: usize) -> usize {
     if start > MANY {
@@ -60,8 +52,4 @@ pub fn print_two(value: u8) {
         io::write_all(1, b"0");
     }
     io::print_decimal(1, value as u64);
-}
-
-pub fn widened(value: i32) -> i64 {
-    value as i64
 }

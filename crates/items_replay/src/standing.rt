@@ -14,37 +14,32 @@ pub struct Standing {
     // The bytes of the text so far; more than there is room for once one did not fit.
     pub length: usize,
     // How many copies there will be of the part that begins at `start`; in a number, the number so far.
-    copies: usize,
+    number: usize,
     start: usize,
 }
 
-// Behind so many bytes of a text, and in no part that is copied.
+// Behind so many bytes of a text, with no number and no part.
 pub fn behind(length: usize) -> Standing {
+    in_mode(Mode::Text, length, 0)
+}
+
+fn in_mode(mode: Mode, length: usize, number: usize) -> Standing {
     Standing {
-        mode: Mode::Text,
+        mode,
         length,
-        copies: 0,
+        number,
         start: length,
     }
 }
 
 impl Standing {
-    fn with_mode(self, mode: Mode) -> Standing {
-        Standing {
-            mode,
-            length: self.length,
-            copies: self.copies,
-            start: self.start,
-        }
-    }
-
     // Behind a byte of the text as the list writes it.
     pub fn text_byte(self, byte: u8, text: &mut [u8]) -> Standing {
         if byte == b'\t' {
-            return self.with_mode(Mode::Reason);
+            return in_mode(Mode::Reason, self.length, 0);
         }
         if byte == b'{' {
-            return behind(self.length).with_mode(Mode::Number);
+            return in_mode(Mode::Number, self.length, 0);
         }
         if byte == b'}' {
             return self.copied(text);
@@ -54,18 +49,17 @@ impl Standing {
 
     // Behind a byte of a number: a colon begins the part to copy, and a brace makes the number a byte.
     pub fn number_byte(self, byte: u8, text: &mut [u8]) -> Standing {
+        let number = self.number;
         if byte == b':' {
-            return self.with_mode(Mode::Text);
+            return in_mode(Mode::Text, self.length, number);
         }
         if byte == b'}' {
-            return behind(self.length).put(numbers::as_byte(self.copies), text);
+            if number > 255 {
+                return behind(usize::MAX);
+            }
+            return behind(self.length).put(number as u8, text);
         }
-        Standing {
-            mode: Mode::Number,
-            length: self.length,
-            copies: numbers::with_digit(self.copies, byte),
-            start: self.start,
-        }
+        in_mode(Mode::Number, self.length, numbers::with_digit(number, byte))
     }
 
     // Behind one byte more of the text.
@@ -78,7 +72,7 @@ impl Standing {
         Standing {
             mode: Mode::Text,
             length: length + 1,
-            copies: self.copies,
+            number: self.number,
             start: self.start,
         }
     }
@@ -91,7 +85,7 @@ impl Standing {
             return self;
         }
         let width = length - start;
-        let end = numbers::end_of_copies(start, width, self.copies);
+        let end = numbers::end_of_copies(start, width, self.number);
         if end > text.len() {
             return behind(usize::MAX);
         }
