@@ -67,24 +67,21 @@ fn print_item(item: Item) {
 }
 
 fn print_date(date: Date) {
-    io::write_all(1, b"date ");
     let year = date.year;
-    if let DateYear::Given(value) = year {
-        io::print_decimal(1, value as u64);
-        io::write_all(1, b"-");
+    match year {
+        DateYear::Given(value) => {
+            numbers::print(b"date ", value);
+            numbers::print_two(b"-", date.month);
+        }
+        DateYear::Absent => numbers::print_two(b"date ", date.month),
     }
-    numbers::print_two(date.month);
-    io::write_all(1, b"-");
-    numbers::print_two(date.day);
+    numbers::print_two(b"-", date.day);
 }
 
 fn print_time(time: Time) {
-    io::write_all(1, b"time ");
-    numbers::print_two(time.hour);
-    io::write_all(1, b":");
-    numbers::print_two(time.minute);
-    io::write_all(1, b":");
-    numbers::print_two(time.second);
+    numbers::print_two(b"time ", time.hour);
+    numbers::print_two(b":", time.minute);
+    numbers::print_two(b":", time.second);
     print_nanoseconds(time.nanosecond);
     let offset = time.offset;
     if let TimeOffset::Given(value) = offset {
@@ -93,42 +90,37 @@ fn print_time(time: Time) {
 }
 
 fn print_nanoseconds(nanosecond: u32) {
-    if nanosecond == 0 {
-        return;
+    if nanosecond > 0 {
+        numbers::print(b" ", nanosecond);
+        io::write_all(1, b"ns");
     }
-    io::write_all(1, b" ");
-    io::print_decimal(1, nanosecond as u64);
-    io::write_all(1, b"ns");
 }
 
 fn print_offset(offset: Offset) {
     if offset.negative {
-        io::write_all(1, b" -");
+        numbers::print_two(b" -", offset.hours);
     } else {
-        io::write_all(1, b" +");
+        numbers::print_two(b" +", offset.hours);
     }
-    numbers::print_two(offset.hours);
-    io::write_all(1, b":");
-    numbers::print_two(offset.minutes);
+    numbers::print_two(b":", offset.minutes);
 }
 
 fn print_relative(v: Relative) {
-    io::write_all(1, b"relative ");
     match v {
-        Relative::Years(n) => print_amount(b"years ", n),
-        Relative::Months(n) => print_amount(b"months ", n),
-        Relative::Days(n) => print_amount(b"days ", n),
-        Relative::Hours(n) => print_amount(b"hours ", n),
-        Relative::Minutes(n) => print_amount(b"minutes ", n),
-        Relative::Seconds(n, nanosecond) => {
-            io::write_all(1, b"seconds ");
-            numbers::print_signed(n);
-            print_nanoseconds(nanosecond);
-        }
+        Relative::Years(n) => print_amount(b"relative years ", n),
+        Relative::Months(n) => print_amount(b"relative months ", n),
+        Relative::Days(n) => print_amount(b"relative days ", n),
+        Relative::Hours(n) => print_amount(b"relative hours ", n),
+        Relative::Minutes(n) => print_amount(b"relative minutes ", n),
+        Relative::Seconds(n, nanosecond) => print_seconds(n, nanosecond),
     }
 }
 
 fn print_amount(unit: &[u8], n: i32) {
-    io::write_all(1, unit);
-    numbers::print_signed(n as i64);
+    numbers::print_signed(unit, n as i64);
+}
+
+fn print_seconds(n: i64, nanosecond: u32) {
+    numbers::print_signed(b"relative seconds ", n);
+    print_nanoseconds(nanosecond);
 }

@@ -34,8 +34,11 @@ pub fn end_of_copies(start: usize, width: usize, copies: usize) -> usize {
 // 2^63.
 const RAISE: u64 = 9223372036854775808;
 
+// Numbers, with the bytes to stand in front of them.
+
 // A number with its sign, a plus too.
-pub fn print_signed(value: i64) {
+pub fn print_signed(front: &[u8], value: i64) {
+    io::write_all(1, front);
     let raised = integers::bias(value);
     if raised < RAISE {
         io::write_all(1, b"-");
@@ -46,8 +49,14 @@ pub fn print_signed(value: i64) {
     io::print_decimal(1, raised - RAISE);
 }
 
+pub fn print(front: &[u8], value: u32) {
+    io::write_all(1, front);
+    io::print_decimal(1, value as u64);
+}
+
 // A number in two digits at least.
-pub fn print_two(value: u8) {
+pub fn print_two(front: &[u8], value: u8) {
+    io::write_all(1, front);
     if value < 10 {
         io::write_all(1, b"0");
     }

@@ -5,11 +5,8 @@ use borrow.Author.Needs.{needs}
 use Rattle.items_replay.proofs.answers.print_amount.Statement.{statement}
 use Rattle.items_replay.proofs.answers.print_amount.Tie as tie
 
-write-all-requires : tie.Need-write-all-requires
-write-all-requires c κs = search needs
-
 cast-print-signed : tie.Need-cast-print-signed
-cast-print-signed c = rw (toZ-ofZ (c .before .before .fits .n)) (record { sfits = omega (arith, c .before .before .fits .n .sfits) })
+cast-print-signed c = rw (toZ-ofZ (c .before .fits .n)) (record { sfits = omega (arith, c .before .fits .n .sfits) })
 
 print-signed-requires : tie.Need-print-signed-requires
 print-signed-requires c κs = search needs
@@ -19,4 +16,4 @@ returns c = search needs
 
 pub print-amount-spec : {M : Type 1} → statement M
 print-amount-spec =
-    tie.close (tie.spec write-all-requires cast-print-signed print-signed-requires returns)
+    tie.close (tie.spec cast-print-signed print-signed-requires returns)
