@@ -6,6 +6,9 @@ use borrow.Author.Needs.{needs}
 use Rattle.items_replay.proofs.numbers.end_of_copies.Statement.{statement}
 use Rattle.items_replay.proofs.numbers.end_of_copies.Tie as tie
 
+bounded : (width copies : ℕ) → width ≤ 5000 → copies ≤ 5000 → width * copies ≤ 25000000
+bounded width copies p q = mul-le-mul {n₂ = 5000} {m₂ = 5000} p q
+
 returns : tie.Need-returns
 returns c = search needs
 
@@ -17,12 +20,12 @@ returns-3 c = search needs
 
 mul-result : tie.Need-mul-result
 mul-result c =
-    let h : c .before .before .before .args .width * c .before .before .before .args .copies ≤ 25000000 = mul-le-mul {n₂ = 5000} {m₂ = 5000} (omega arith) (omega arith) in
+    let h = bounded (c .before .before .before .args .width) (c .before .before .before .args .copies) (omega arith) (omega arith) in
     omega (arith, h)
 
 add-result : tie.Need-add-result
 add-result c =
-    let h : c .before .before .before .args .width * c .before .before .before .args .copies ≤ 25000000 = mul-le-mul {n₂ = 5000} {m₂ = 5000} (omega arith) (omega arith) in
+    let h = bounded (c .before .before .before .args .width) (c .before .before .before .args .copies) (omega arith) (omega arith) in
     omega (arith, h)
 
 returns-4 : tie.Need-returns-4
