@@ -1,0 +1,103 @@
+use mathlib.Core.Path.{_≡_}
+use Prim.Native.Nat.{_≤_, _-_}
+use lib.ListN.{length}
+use borrow.Author.Needs.{needs}
+use Rattle.lines_lib.proofs.put_answers.Statement.{statement}
+use Rattle.lines_lib.proofs.put_answers.Tie as tie
+use Rattle.lines_lib.proofs.put_answers.Reads as reads
+use Rattle.lines_lib.proofs.put_answers.Lts as lts
+use Rattle.lines_lib.proofs.line_end.Reads as line-end-reads
+use Rattle.lines_lib.proofs.put_line.Reads as put-line-reads
+
+abbrev Inv-loop : tie.InvT-loop
+Inv-loop chunk base out₀ taken₀ used₀ out taken used = (taken ≤ length chunk) × (used ≤ length out) × (length out ≡ length out₀)
+
+abbrev μ-loop : tie.MeasureT-loop
+μ-loop chunk base out₀ taken₀ used₀ out taken used = length chunk - taken
+
+loop-holds : tie.Need-loop-holds Inv-loop μ-loop
+loop-holds c = search needs
+
+sub-if1 : tie.Need-sub-if1 Inv-loop μ-loop
+sub-if1 c = search needs
+
+same-length : tie.Need-same-length Inv-loop μ-loop
+same-length c = search needs
+
+returns : tie.Need-returns Inv-loop μ-loop
+returns c = search needs
+
+line-end-requires : tie.Need-line-end-requires Inv-loop μ-loop
+line-end-requires c κs = search needs
+
+same-length-2 : tie.Need-same-length-2 Inv-loop μ-loop
+same-length-2 c = search needs
+
+returns-2 : tie.Need-returns-2 Inv-loop μ-loop
+returns-2 c = search needs
+
+sub-put-line : tie.Need-sub-put-line Inv-loop μ-loop
+sub-put-line c = search needs
+
+part-put-line-start : tie.Need-part-put-line-start Inv-loop μ-loop
+part-put-line-start c = search needs
+
+part-put-line-end : tie.Need-part-put-line-end Inv-loop μ-loop
+part-put-line-end c = search needs
+
+sub-put-line-2 : tie.Need-sub-put-line-2 Inv-loop μ-loop
+sub-put-line-2 c = search needs
+
+part-put-line-start-2 : tie.Need-part-put-line-start-2 Inv-loop μ-loop
+part-put-line-start-2 c = search needs
+
+part-put-line-end-2 : tie.Need-part-put-line-end-2 Inv-loop μ-loop
+part-put-line-end-2 c = search needs
+
+put-line-requires : tie.Need-put-line-requires Inv-loop μ-loop
+put-line-requires c κs = search needs
+
+add-used : tie.Need-add-used Inv-loop μ-loop
+add-used c = search needs
+
+add-taken : tie.Need-add-taken Inv-loop μ-loop
+add-taken c = search needs
+
+loop-less : tie.Need-loop-less Inv-loop μ-loop
+loop-less c = search needs
+
+loop-again : tie.Need-loop-again Inv-loop μ-loop
+loop-again c = search needs
+
+same-length-3 : tie.Need-same-length-3 Inv-loop μ-loop
+same-length-3 c = search needs
+
+returns-3 : tie.Need-returns-3 Inv-loop μ-loop
+returns-3 c = search needs
+
+pub put-answers-spec : {M : Type 1} → statement M
+put-answers-spec =
+    tie.close
+    (tie.spec
+    Inv-loop
+    μ-loop
+    loop-holds
+    sub-if1
+    same-length
+    returns
+    line-end-requires
+    same-length-2
+    returns-2
+    sub-put-line
+    part-put-line-start
+    part-put-line-end
+    sub-put-line-2
+    part-put-line-start-2
+    part-put-line-end-2
+    put-line-requires
+    add-used
+    add-taken
+    loop-less
+    loop-again
+    same-length-3
+    returns-3)

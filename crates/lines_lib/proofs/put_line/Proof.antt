@@ -1,0 +1,23 @@
+use mathlib.Core.Path.{sym}
+use borrow.Author.Needs.{needs}
+use Rattle.lines_lib.proofs.put_line.Statement.{statement}
+use Rattle.lines_lib.proofs.put_line.Tie as tie
+use Rattle.lines_lib.proofs.put_line.Reads as reads
+use Rattle.lines_lib.proofs.put_line.Lts as lts
+use Rattle.lines_lib.proofs.put_answer.Reads as put-answer-reads
+use Rattle.reading.proofs.read_text.Reads as read-text-reads
+
+read-text-requires : tie.Need-read-text-requires
+read-text-requires c κs = search needs
+
+put-answer-requires : tie.Need-put-answer-requires
+put-answer-requires c κs = search needs
+
+same-length : tie.Need-same-length
+same-length c = search needs
+
+returns : tie.Need-returns
+returns c = (search needs, rw (sym (c .before .before .before .before .read-text .ensures)) (c .before .before .put-answer .ensures .1))
+
+pub put-line-spec : {M : Type 1} → statement M
+put-line-spec = tie.close (tie.spec read-text-requires put-answer-requires same-length returns)

@@ -1,0 +1,33 @@
+-- What the line program prints for one line: document 01, 'Packet and text'.
+use Prim.Native.Nat.{ℕ, _+_}
+use mathlib.Core.Path.{_≡_}
+use mathlib.Core.List.{List, [], _∷_, _++_}
+use lib.Dec.{ltb}
+use lib.ListN.{length, take, drop}
+use Rattle.extended.specs.Outcome.{Outcome, number}
+use Rattle.extended.specs.declared.ExtendedDateTime.{ExtendedDateTime}
+use Rattle.primitive.specs.Answer.{if}
+use Rattle.builder.specs.Placed.{Placed, fine, refusal}
+use Rattle.writer.specs.Writer.{digits, written, bytesOf}
+
+-- "number and place". A blank is 32, and byte 10 ends the line
+unfoldable pub refusalLine : ℕ → ℕ → List ℕ
+refusalLine n at = digits n ++ (32 ∷ (digits at ++ (10 ∷ [])))
+
+-- "number 0 and the written record", `0` being 48; a record that can't be written is refused at place 0
+unfoldable pub writtenLine : Outcome (List ℕ) → List ℕ
+writtenLine o = if (ltb 0 (number o)) (refusalLine (number o) 0) (48 ∷ 32 ∷ (bytesOf o ++ (10 ∷ [])))
+
+-- no text has more than 41 bytes
+unfoldable pub lineAnswer : Placed ExtendedDateTime → List ℕ
+lineAnswer (fine r) = writtenLine (written r 41)
+lineAnswer (refusal n at) = refusalLine n at
+
+-- a text at a place of a row of bytes; the others stay
+unfoldable pub putAt : List ℕ → ℕ → List ℕ → List ℕ
+putAt text at out = take at out ++ (text ++ drop (at + length text) out)
+
+-- a step that puts a text at a place, answers the place behind it, and leaves the other bytes
+pub record Put (text : List ℕ) (at : ℕ) (out : List ℕ) (next : ℕ) (result : List ℕ) : Type 0 where
+  pub place : next ≡ at + length text
+  pub bytes : result ≡ putAt text at out
