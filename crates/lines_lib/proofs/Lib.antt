@@ -2,3 +2,4 @@
 pub mod Widths
 pub mod Putting
 pub mod Part
+pub mod Examples

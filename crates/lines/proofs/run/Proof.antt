@@ -1,12 +1,9 @@
+-- `lines::run` is safe and ends: the turns that are left fall, and the buffers keep their lengths. Assumes nothing.
 use mathlib.Core.Path.{_≡_}
 use lib.ListN.{length}
 use borrow.Author.Needs.{needs}
 use Rattle.lines.proofs.run.Statement.{statement}
 use Rattle.lines.proofs.run.Tie as tie
-use Rattle.lines.proofs.run.Reads as reads
-use Rattle.lines.proofs.run.Lts as lts
-use Rattle.lines.proofs.turn.Reads as turn-reads
-use Rattle.lines_lib.proofs.epoch.Reads as epoch-reads
 
 abbrev Inv-loop : tie.InvT-loop
 Inv-loop input₀ output₀ at₀ turns₀ input output at turns = (length input ≡ length input₀) × (length output ≡ length output₀)

@@ -1,12 +1,10 @@
+-- `lines_lib::keep` stays in the buffer, and ends. Assumes nothing.
 use mathlib.Core.Path.{_≡_}
 use Prim.Native.Nat.{_≤_, _-_}
 use lib.ListN.{length}
 use borrow.Author.Needs.{needs}
 use Rattle.lines_lib.proofs.keep.Statement.{statement}
 use Rattle.lines_lib.proofs.keep.Tie as tie
-use Rattle.lines_lib.proofs.keep.Reads as reads
-use Rattle.lines_lib.proofs.keep.Lts as lts
-use Rattle.lines_lib.proofs.least.Reads as least-reads
 
 abbrev Inv-loop : tie.InvT-loop
 Inv-loop buffer₀ from end n i₀ buffer i = (i ≤ n) × (length buffer ≡ length buffer₀)

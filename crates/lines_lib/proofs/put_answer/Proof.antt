@@ -1,12 +1,9 @@
+-- `lines_lib::put_answer` meets its contract, by the two cases of what was built. Assumes nothing.
 use Rattle.lines_lib.specs.Answers.{lineAnswer}
 use borrow.Author.Needs.{needs}
 use Rattle.lines_lib.proofs.Putting.{answer-record, answer-refusal}
 use Rattle.lines_lib.proofs.put_answer.Statement.{statement}
 use Rattle.lines_lib.proofs.put_answer.Tie as tie
-use Rattle.lines_lib.proofs.put_answer.Reads as reads
-use Rattle.lines_lib.proofs.put_answer.Lts as lts
-use Rattle.lines_lib.proofs.put_record.Reads as put-record-reads
-use Rattle.lines_lib.proofs.put_refusal.Reads as put-refusal-reads
 
 enum-known-built : tie.Need-enum-known-built
 enum-known-built c = search needs

@@ -1,13 +1,10 @@
+-- `lines_lib::put_answers` stays in the chunk and in the lent place, and ends. Assumes nothing.
 use mathlib.Core.Path.{_≡_}
 use Prim.Native.Nat.{_≤_, _-_}
 use lib.ListN.{length}
 use borrow.Author.Needs.{needs}
 use Rattle.lines_lib.proofs.put_answers.Statement.{statement}
 use Rattle.lines_lib.proofs.put_answers.Tie as tie
-use Rattle.lines_lib.proofs.put_answers.Reads as reads
-use Rattle.lines_lib.proofs.put_answers.Lts as lts
-use Rattle.lines_lib.proofs.line_end.Reads as line-end-reads
-use Rattle.lines_lib.proofs.put_line.Reads as put-line-reads
 
 abbrev Inv-loop : tie.InvT-loop
 Inv-loop chunk base out₀ taken₀ used₀ out taken used = (taken ≤ length chunk) × (used ≤ length out) × (length out ≡ length out₀)

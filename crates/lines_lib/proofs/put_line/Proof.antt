@@ -1,11 +1,8 @@
+-- `lines_lib::put_line` meets its contract, by what `read_text` promises. Assumes nothing.
 use mathlib.Core.Path.{sym}
 use borrow.Author.Needs.{needs}
 use Rattle.lines_lib.proofs.put_line.Statement.{statement}
 use Rattle.lines_lib.proofs.put_line.Tie as tie
-use Rattle.lines_lib.proofs.put_line.Reads as reads
-use Rattle.lines_lib.proofs.put_line.Lts as lts
-use Rattle.lines_lib.proofs.put_answer.Reads as put-answer-reads
-use Rattle.reading.proofs.read_text.Reads as read-text-reads
 
 read-text-requires : tie.Need-read-text-requires
 read-text-requires c κs = search needs

@@ -1,12 +1,8 @@
+-- `lines_lib::put_record` meets its contract: a refusal covers the two bytes in front. Assumes nothing.
 use Rattle.lines_lib.proofs.Putting.{record-refused, record-written}
 use borrow.Author.Needs.{needs}
 use Rattle.lines_lib.proofs.put_record.Statement.{statement}
 use Rattle.lines_lib.proofs.put_record.Tie as tie
-use Rattle.lines_lib.proofs.put_record.Reads as reads
-use Rattle.lines_lib.proofs.put_record.Lts as lts
-use Rattle.lines_lib.proofs.put_byte.Reads as put-byte-reads
-use Rattle.lines_lib.proofs.put_refusal.Reads as put-refusal-reads
-use Rattle.lines_lib.proofs.put_text.Reads as put-text-reads
 
 put-byte-requires : tie.Need-put-byte-requires
 put-byte-requires c κs = search needs

@@ -1,11 +1,8 @@
+-- `lines_lib::put_refusal` meets its contract: its four steps are one. Assumes nothing.
 use borrow.Author.Needs.{needs}
 use Rattle.lines_lib.proofs.Putting.{refusal-put}
 use Rattle.lines_lib.proofs.put_refusal.Statement.{statement}
 use Rattle.lines_lib.proofs.put_refusal.Tie as tie
-use Rattle.lines_lib.proofs.put_refusal.Reads as reads
-use Rattle.lines_lib.proofs.put_refusal.Lts as lts
-use Rattle.lines_lib.proofs.put_byte.Reads as put-byte-reads
-use Rattle.lines_lib.proofs.put_decimal.Reads as put-decimal-reads
 
 put-decimal-requires : tie.Need-put-decimal-requires
 put-decimal-requires c κs = search needs
