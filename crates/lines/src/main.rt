@@ -66,7 +66,7 @@ fn turn(input: &mut [u8], output: &mut [u8], at: Standing) -> Standing {
     if at.begun {
         return answer(input, output, at);
     }
-    let line = lines_lib::line_end(&input[from..end], 0);
+    let line = lines_lib::first_line_end(&input[from..end]);
     if line == end - from {
         return read_on(input, at);
     }
@@ -89,10 +89,7 @@ fn turn(input: &mut [u8], output: &mut [u8], at: Standing) -> Standing {
 }
 
 fn refuse(output: &mut [u8], built: Built) {
-    if output.len() < lines_lib::LONGEST_ANSWER {
-        return;
-    }
-    let n = lines_lib::put_answer(built, output);
+    let n = lines_lib::put_first(built, output);
     io::write_all(1, &output[0..n]);
 }
 

@@ -107,8 +107,15 @@ pub fn epoch() -> ExtendedDateTime
     }
 }
 
+// Where the first line ends: at a byte 10, or with the bytes.
+pub fn first_line_end(bytes: &[u8]) -> usize
+    ensures { λ r. ⌜ r ≤ length (now (bytes .entry)) ⌝ }
+{
+    line_end(bytes, 0)
+}
+
 // Where the line that begins at `from` ends: at a byte 10, or with the bytes.
-pub fn line_end(bytes: &[u8], from: usize) -> usize
+fn line_end(bytes: &[u8], from: usize) -> usize
     requires { ⌜ from ≤ length (now bytes) ⌝ }
     ensures { λ r. ⌜ (from ≤ r) × (r ≤ length (now (bytes .entry))) ⌝ }
 {
@@ -131,8 +138,20 @@ fn put_line(line: &[u8], base: ExtendedDateTime, out: &mut [u8]) -> usize
     put_answer(reading::read_text(line, base), out)
 }
 
+// An answer at the front of the lent place; nothing where the place may be too short for one.
+pub fn put_first(built: Built, out: &mut [u8]) -> usize
+    ensures { λ r. ⌜ r ≤ length (now (out .exit)) ⌝ }
+    ensures { λ r. ⌜ (length (now (out .entry)) < 44 → (r ≡ 0) × (now (out .exit) ≡ now (out .entry))) ⌝ }
+    ensures { λ r. ⌜ (44 ≤ length (now (out .entry)) → Put (lineAnswer (builtOf built)) 0 (now (out .entry)) r (now (out .exit))) ⌝ }
+{
+    if out.len() < LONGEST_ANSWER {
+        return 0;
+    }
+    put_answer(built, out)
+}
+
 // An answer at the front of the lent place.
-pub fn put_answer(built: Built, out: &mut [u8]) -> usize
+fn put_answer(built: Built, out: &mut [u8]) -> usize
     requires { ⌜ 44 ≤ length (now out) ⌝ }
     ensures { λ r. ⌜ r ≤ 44 ⌝ }
     ensures { λ r. ⌜ Put (lineAnswer (builtOf built)) 0 (now (out .entry)) r (now (out .exit)) ⌝ }
