@@ -32,7 +32,7 @@ use Rattle.round_trip.proofs.Written.{digitsOf, text-is, bothOf, sound,
 use Rattle.round_trip.proofs.Built.{built-alone, built-moved}
 
 -- a blank, the sign, N in decimal without leading zeros, a blank and `seconds`; true is minus
-pub shift : Bool → ℕ → List ℕ
+unfoldable pub shift : Bool → ℕ → List ℕ
 shift minus n = shiftText minus (digits n)
 
 -- ---- its bytes

@@ -4,9 +4,9 @@
 use native.Mathlib.Omega.{arith}
 use borrow.Author.Tests.{le-leb}
 use Prim.Native.Nat.{ℕ, _+_, _/_, _%_, _^_, _<_, _≤_}
-use mathlib.Core.Path.{_≡_, refl, sym, ap, _∙_}
+use mathlib.Core.Path.{_≡_, refl, sym, ap, ap₂, _∙_}
 use mathlib.Core.Bool.{Bool, true, false}
-use mathlib.Core.List.{List, _++_}
+use mathlib.Core.List.{List, _∷_, _++_}
 use lib.Dec.{leb}
 use lib.IntN.{ℤ, pos, _+ℤ_, +ℤ-idr}
 use lib.ListN.{length, take, drop}
@@ -18,8 +18,9 @@ use Rattle.extended.proofs.Outcomes.{same}
 use Rattle.extended.proofs.Records.{facts}
 use Rattle.extended.proofs.Theorems.{Recorded, from-unix-seconds-exact, seconds-exact, seconds-refused}
 use Rattle.primitive.specs.Ordinal.{signed}
+use Rattle.primitive.specs.Text.{bytes}
 use Rattle.builder.specs.Placed.{Placed, fine, placed}
-use Rattle.writer.specs.Writer.{wholeMinutes, textOf, written, bytesOf, writtenAnswer, over}
+use Rattle.writer.specs.Writer.{digits, signOf, wholeMinutes, textOf, written, bytesOf, writtenAnswer, over}
 use Rattle.writer.specs.declared.Written.{Written}
 use Rattle.writer.proofs.Texts.{text-long}
 use Rattle.writer.proofs.Theorems.{one-owner}
@@ -42,6 +43,15 @@ pub record Read (text : List ℕ) (base : ExtendedDateTime) (a : Answer) : Type 
 pub record Writable (r : ExtendedDateTime) : Type 0 where
   pub accepted-record : test r ≡ accepted tt
   pub whole : wholeMinutes (r .«offset_seconds») ≡ true
+
+-- a blank, the sign, N in decimal without leading zeros, a blank and `seconds`; a blank is 32, `-` is 45 for true and `+` is 43
+abbrev pub seconds : Bool → ℕ → List ℕ
+seconds minus n = 32 ∷ (signOf minus ∷ (digits n ++ (32 ∷ bytes "seconds")))
+
+seconds-are : (minus : Bool) (n : ℕ) → shift minus n ≡ seconds minus n
+unfolding shift
+seconds-are true n = refl
+seconds-are false n = refl
 
 -- "A record's text is the bytes the writer puts at the front of the lent place, as many as the length it answers"
 abbrev pub textIn : Written → List ℕ → List ℕ
@@ -93,8 +103,8 @@ module _ (r : ExtendedDateTime) (k : Writable r) (out : List ℕ) (room : 41 ≤
       there : a .number ≡ 0 → Recorded u (r .nanosecond) (r .«offset_seconds») (a .«record») → Answered u a
       nowhere : 0 < a .number → a .«record» ≡ blank → ((s : ExtendedDateTime) → test s ≡ accepted tt → moment s ≡ u → s .«offset_seconds» ≡ r .«offset_seconds» → ⊥) → Answered u a
 
-    -- The text, a blank, a sign, N in decimal without leading zeros, a blank and `seconds`: N from 0 to 9223372036854775807, true is minus.
-    pub reads-moved : (minus : Bool) (n : ℕ) → n ≤ 9223372036854775807 → (a : Answer) → Read (textIn w left ++ shift minus n) base a → Answered (moment r +ℤ signed minus n) a
+    -- The text with N seconds behind it, N from 0 to 9223372036854775807, read under any accepted base.
+    pub reads-moved : (minus : Bool) (n : ℕ) → n ≤ 9223372036854775807 → (a : Answer) → Read (textIn w left ++ seconds minus n) base a → Answered (moment r +ℤ signed minus n) a
     unfolding placedAnswer
     reads-moved minus n h a c = by (addSeconds r (signed minus n) 0) refl
       where
@@ -108,7 +118,7 @@ module _ (r : ExtendedDateTime) (k : Writable r) (out : List ℕ) (room : 41 ≤
         small = omega (arith, facts r t .nanosecond-high)
 
         e : a ≡ placedAnswer (placed 0 (addSeconds r d 0))
-        e = c .answer ∙ ap placedAnswer (ap (λ l. readText (l ++ shift minus n) base) text-in ∙ read-moved base r b t (k .whole) minus n (omega arith))
+        e = c .answer ∙ ap placedAnswer (ap₂ (λ (l : List ℕ) (m : List ℕ). readText (l ++ m) base) text-in (sym (seconds-are minus n)) ∙ read-moved base r b t (k .whole) minus n (omega arith))
 
         by : (o : Outcome ExtendedDateTime) → addSeconds r d 0 ≡ o → Answered (moment r +ℤ d) a
         by (accepted s) q = there (rw (e, q)) (rw (e, q) (recorded r (moment r +ℤ d) s t (seconds-exact r d 0 s t small .0 q)))
