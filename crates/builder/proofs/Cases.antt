@@ -7,10 +7,9 @@ use mathlib.Core.List.{List, [], _∷_}
 use lib.ListN.{take}
 use lib.IntN.{ℤ}
 use borrow.Author.Tests.{ne-eqb}
-use lib.Dec.{eqb}
 use Rattle.primitive.specs.Answer.{if}
-use Rattle.extended.specs.Outcome.{Outcome, accepted, refused, _>>=_}
-use Rattle.extended.specs.Extended.{madeOf, time, date, accept, withDate, withTime, withOffset, addSeconds, addDays, addHours, addMinutes, addYears, addMonths, weekdayMonday0}
+use Rattle.extended.specs.Outcome.{Outcome, accepted, _>>=_}
+use Rattle.extended.specs.Extended.{madeOf, time, date, withDate, withTime, withOffset, addSeconds, addDays, addHours, addMinutes, addYears, addMonths, weekdayMonday0}
 use Rattle.extended.specs.declared.ExtendedDateTime.{ExtendedDateTime}
 use Rattle.extended.specs.declared.Made.{Made}
 use Rattle.extended.specs.declared.Made.the-variants as made
@@ -31,7 +30,7 @@ use Rattle.items.specs.declared.Pure.{Pure}
 use Rattle.items.specs.declared.Item.{Item}
 use Rattle.items.specs.declared.Item.the-variants as item
 use Rattle.builder.specs.Placed as placed
-use Rattle.builder.specs.Placed.{Placed, fine, refusal}
+use Rattle.builder.specs.Placed.{fine, refusal}
 use Rattle.builder.specs.Rules.{setDate, setTime, setWeekday, setZone, setDateTime, setPureYear, setPureTime, pureYear, pure, setPure, setItem, rulePlace, relativeOf}
 use Rattle.builder.specs.Building.{yearOr, onDate, onOffset, onTime, forwarded, onWeekday, addRelative, withZone, onZone}
 use Rattle.builder.specs.declared.GivenDate.{GivenDate}

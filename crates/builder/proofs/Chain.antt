@@ -2,12 +2,12 @@
 -- function that opens one answer after the other meets a definition written with `do`. Assumes nothing.
 use borrow.Author.Needs.{needs}
 use Prim.Native.Nat.{ℕ, _<_, _≤_}
-use mathlib.Core.Path.{_≡_, refl, sym, ap, _∙_}
+use mathlib.Core.Path.{_≡_, sym, ap, _∙_}
 use mathlib.Core.Bool.{Bool, true, false, not, _&&_, _||_}
 use borrow.Author.Tests.{le-leb, lt-leb}
-use lib.Dec.{leb, eqb}
+use lib.Dec.{leb}
 use lib.IntN.{ℤ}
-use Rattle.primitive.specs.Answer.{Answer, matched, none, stop, if}
+use Rattle.primitive.specs.Answer.{Answer, matched, none, if}
 use Rattle.primitive.specs.Primitive.{u32Answer, u64Answer}
 use Rattle.primitive.specs.declared.ReadU32.{ReadU32}
 use Rattle.primitive.specs.declared.ReadU32.the-variants as u32

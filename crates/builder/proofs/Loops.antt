@@ -3,11 +3,11 @@ use native.Mathlib.Omega.{arith}
 use native.Mathlib.Nat.{add-zero}
 use native.Mathlib.Numerals.{add-one}
 use Prim.Native.Nat.{ℕ, zero, suc, _+_, _-_, _<_, _≤_, min}
-use mathlib.Core.Path.{_≡_, refl, sym, ap, _∙_}
+use mathlib.Core.Path.{_≡_, refl, sym, _∙_}
 use mathlib.Core.List.{List, [], _∷_, _++_, append-nil, append-assoc}
 use mathlib.Core.Bool.{Bool, true, false}
 use lib.ListN.{length, take, drop, set, getD}
-use lib.Seq.{length-take-le, take-all, drop-length, drop-cons, getD-take, take-suc, take-take, take-set-le, take-suc-set}
+use lib.Seq.{length-take-le, take-all, drop-cons, getD-take, take-suc, take-set-le, take-suc-set}
 use lib.Dec.{ltb, eqb}
 use borrow.Author.Tests.{ltb-true, ltb-false, ne-eqb}
 use Rattle.extended.specs.Outcome.{Outcome, accepted, refused, _>>=_}
@@ -15,12 +15,10 @@ use Rattle.extended.specs.Extended.{madeOf}
 use Rattle.extended.specs.declared.ExtendedDateTime.{ExtendedDateTime}
 use Rattle.extended.specs.declared.Made.{Made}
 use Rattle.extended.specs.declared.Made.the-variants as made
-use Rattle.items.specs.declared.Item.{Item}
-use Rattle.items.specs.declared.Item.the-variants as item
 use Rattle.items.specs.declared.Slot.{Slot}
 use Rattle.builder.specs.Placed as placed
 use Rattle.builder.specs.Placed.{Placed, fine, refusal}
-use Rattle.builder.specs.Rules.{gatheredOf, empty, setItem, rulePlace, onward, gather, relativeOf, relatives, Parts, parts, gathered, setOf}
+use Rattle.builder.specs.Rules.{gatheredOf, empty, setItem, rulePlace, onward, gather, relativeOf, relatives, parts, gathered, setOf}
 use Rattle.builder.specs.Building.{none, addRelative, addRelatives, buildExtended, build, builtOf}
 use Rattle.builder.specs.declared.DateTimeBuilder.{DateTimeBuilder}
 use Rattle.builder.specs.declared.RelativePlace.{RelativePlace}

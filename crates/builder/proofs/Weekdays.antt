@@ -1,16 +1,13 @@
 -- The laws of the days to a weekday: the weeks that are one less, and sums that an i32 does not hold. Assumes nothing.
 use native.Mathlib.Omega.{arith}
-use Prim.Native.Nat.{ℕ, zero, suc, _-_, _<_, _≤_, _^_}
-use mathlib.Core.Path.{_≡_, refl, sym, _∙_}
-use mathlib.Core.Bool.{Bool, true, false, not, _&&_}
-use lib.Dec.{ltb}
+use Prim.Native.Nat.{ℕ, zero, suc, _-_, _^_}
+use mathlib.Core.Path.{_≡_, refl, sym}
+use mathlib.Core.Bool.{Bool, true, false, not}
 use borrow.Author.Tests.{ltb-false, lt-leb}
 use lib.IntN.{ℤ, pos, negsuc, _+ℤ_, _*ℤ_}
-use lib.Signed.{mag, leZ, ltZ}
+use lib.Signed.{ltZ}
 use Rattle.integers.specs.Integers.{naturalOf, inI64, fitsIf, product, sum}
-use Rattle.integers.specs.declared.Checked.{Checked}
 use Rattle.integers.specs.declared.Checked.the-variants.{Fits, Overflow}
-use Rattle.integers.specs.declared.Natural.{Natural}
 use Rattle.integers.specs.declared.Natural.the-variants.{At, Below}
 use Rattle.integers.proofs.Range.{leZ-by-ltZ, fits-value}
 use Rattle.extended.specs.Outcome.{accepted, refused}

@@ -1,20 +1,18 @@
 -- How the items make a record of the base: document 01, 'items/weekday.rs, items/builder.rs'.
 use Prim.Native.Nat.{ℕ, zero, suc, _+_, _-_, _%_}
-use mathlib.Core.Bool.{Bool, true, false, not, _&&_, _||_}
+use mathlib.Core.Bool.{Bool, true, false, _&&_, _||_}
 use mathlib.Core.List.{List, [], _∷_}
-use lib.Dec.{eqb, ltb}
+use lib.Dec.{eqb}
 use lib.IntN.{ℤ, pos, negsuc, _+ℤ_, _*ℤ_}
 use lib.Signed.{leZ}
 use Rattle.extended.specs.Outcome.{Outcome, accepted, refused, check, _>>=_, _>>_}
 use Rattle.extended.specs.Extended.{date, time, accept, withDate, withTime, withOffset, addSeconds, addDays, addHours, addMinutes, addYears, addMonths, weekdayMonday0}
 use Rattle.extended.specs.declared.ExtendedDateTime.{ExtendedDateTime}
 use Rattle.primitive.specs.Answer.{if}
-use Rattle.dates.specs.declared.date.Date.{Date}
 use Rattle.dates.specs.declared.date.DateYear.{DateYear}
 use Rattle.dates.specs.declared.date.DateYear.the-variants as year
 use Rattle.times.specs.Offset.{normalized, totalSeconds}
 use Rattle.times.specs.declared.offset.Normalized.{Normalized}
-use Rattle.times.specs.declared.time.Time.{Time}
 use Rattle.times.specs.declared.time.TimeOffset.{TimeOffset}
 use Rattle.times.specs.declared.time.TimeOffset.the-variants as offset
 use Rattle.relative.specs.declared.Relative.{Relative}
@@ -25,7 +23,7 @@ use Rattle.items.specs.declared.Weekday.{Weekday}
 use Rattle.items.specs.declared.Slot.{Slot}
 use Rattle.builder.specs.Placed as placed
 use Rattle.builder.specs.Placed.{Placed, fine, refusal}
-use Rattle.builder.specs.Rules.{isDate, isTime, isWeekday, isZone, Parts, gathered}
+use Rattle.builder.specs.Rules.{isDate, isTime, isWeekday, isZone, gathered}
 use Rattle.builder.specs.declared.GivenDate.{GivenDate}
 use Rattle.builder.specs.declared.GivenDate.the-variants as given-date
 use Rattle.builder.specs.declared.GivenTime.{GivenTime}

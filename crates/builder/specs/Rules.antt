@@ -1,6 +1,6 @@
 -- Which items may stand together: document 01, 'items/weekday.rs, items/builder.rs', and 29.1: "A date is a string, possibly empty,
 -- containing many items separated by whitespace .. The order of the items is not important."
-use Prim.Native.Nat.{ℕ, zero, suc, _+_, _-_}
+use Prim.Native.Nat.{ℕ, suc, _+_, _-_}
 use mathlib.Core.Bool.{Bool, true, false, not, _&&_, _||_}
 use mathlib.Core.List.{List, [], _∷_, _++_}
 use lib.Dec.{leb, eqb}

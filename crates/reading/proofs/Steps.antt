@@ -3,20 +3,19 @@ use borrow.Author.Needs.{needs}
 use borrow.Author.Tests.{lt-leb, le-leb, eq-eqb, ne-eqb}
 use native.Mathlib.Omega.{arith}
 use Prim.Native.Nat.{ℕ, _<_, _≤_}
-use mathlib.Core.Path.{_≡_, refl, sym, ap, _∙_}
+use mathlib.Core.Path.{_≡_}
 use mathlib.Core.List.{List, []}
-use lib.Dec.{leb, eqb}
 use lib.ListN.{length, take}
 use Rattle.primitive.specs.Text.{lowered}
 use Rattle.primitive.proofs.Lowered.{length-lowered}
-use Rattle.extended.specs.Outcome.{Outcome, accepted, refused, number}
+use Rattle.extended.specs.Outcome.{number}
 use Rattle.extended.specs.Extended.{test}
 use Rattle.extended.specs.declared.ExtendedDateTime.{ExtendedDateTime}
 use Rattle.extended.proofs.Outcomes.{refused-by, passed}
 use Rattle.extended.proofs.Records.{record-proper}
-use Rattle.items.specs.Items.{Parsed, parse-items, itemsAnswer}
+use Rattle.items.specs.Items.{parse-items, itemsAnswer}
 use Rattle.items.specs.declared.Items.{Items}
-use Rattle.builder.specs.Placed.{Placed, fine, refusal, _>>=_}
+use Rattle.builder.specs.Placed.{Placed, refusal, _>>=_}
 use Rattle.builder.specs.Building.{build}
 use Rattle.reading.specs.Reading.{asciiEnd, itemsOf, buildText, readLowered, readText}
 

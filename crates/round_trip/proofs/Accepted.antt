@@ -1,26 +1,21 @@
 -- Whatever is built is accepted: number 0 is given to accepted records alone, for every base and every list of items. Assumes nothing.
 use Prim.Native.Nat.{ℕ, _+_, _-_, _*_, _/_, _%_, min}
-use mathlib.Core.Path.{_≡_, refl, sym, ap, _∙_}
+use mathlib.Core.Path.{_≡_, refl, sym, ap}
 use mathlib.Core.Bool.{Bool, true, false, cond}
 use mathlib.Core.List.{List, [], _∷_}
-use lib.Dec.{ltb, leb, eqb}
+use lib.Dec.{ltb}
 use lib.IntN.{ℤ, pos}
 use Rattle.integers.specs.Integers.{sum, product, naturalOf}
 use Rattle.extended.specs.Outcome.{Outcome, accepted, refused, check, _>>=_, _>>_}
 use Rattle.extended.specs.Calendar.{monthDays}
 use Rattle.extended.specs.Extended.{checked, fromZero, make, date, time, dateOf, timeOf, test, testYear, accept, moment, fromUnixSeconds, withDate, withTime, withOffset, carried, addSeconds, addUnits, addDays, addHours, addMinutes, clamp, addYears, addMonths, weekdayMonday0}
 use Rattle.extended.specs.declared.ExtendedDateTime.{ExtendedDateTime}
-use Rattle.extended.proofs.Outcomes.{apart, same, first-passed, Step, step-passed}
+use Rattle.extended.proofs.Outcomes.{apart, same, first-passed}
 use Rattle.extended.proofs.Theorems.{from-unix-seconds-exact}
 use Rattle.primitive.specs.Answer.{if}
-use Rattle.times.specs.Offset.{totalSeconds}
-use Rattle.times.specs.declared.offset.Normalized.{Normalized}
-use Rattle.times.specs.declared.time.TimeOffset.{TimeOffset}
-use Rattle.times.specs.declared.time.TimeOffset.the-variants as offset
 use Rattle.relative.specs.declared.Relative.{Relative}
 use Rattle.relative.specs.declared.Relative.the-variants as relative
 use Rattle.items.specs.declared.Slot.{Slot}
-use Rattle.items.specs.declared.Weekday.{Weekday}
 use Rattle.builder.specs.Placed as placed
 use Rattle.builder.specs.Placed.{Placed, fine, refusal}
 use Rattle.builder.specs.Rules.{Parts, gathered}

@@ -1,26 +1,22 @@
 -- What the item of a written record builds under any base: the record itself, and with seconds behind it what `addSeconds` gives. Assumes
 -- nothing.
-use Prim.Native.Nat.{ℕ}
 use native.Mathlib.Omega.{arith}
-use mathlib.Core.Path.{_≡_, refl, sym, ap, _∙_}
+use mathlib.Core.Path.{_≡_, refl}
 use mathlib.Core.Bool.{Bool, true, false}
-use mathlib.Core.List.{List, [], _∷_}
-use lib.IntN.{ℤ, pos}
+use mathlib.Core.List.{[], _∷_}
+use lib.IntN.{ℤ}
 use Rattle.extended.specs.Outcome.{Outcome, accepted, refused, _>>=_, _>>_}
 use Rattle.extended.specs.Extended.{make, date, time, dateOf, timeOf, test, accept, withDate, withTime, withOffset, addSeconds}
-use Rattle.extended.specs.declared.DateParts.{DateParts}
-use Rattle.extended.specs.declared.TimeParts.{TimeParts}
 use Rattle.extended.specs.declared.ExtendedDateTime.{ExtendedDateTime}
-use Rattle.extended.proofs.Records.{Accepted, facts, tested}
+use Rattle.extended.proofs.Records.{facts, tested}
 use Rattle.times.specs.Offset.{totalSeconds}
 use Rattle.relative.specs.declared.Relative.the-variants.{Seconds}
 use Rattle.items.specs.declared.Item.{Item}
 use Rattle.items.specs.declared.Item.the-variants as item
 use Rattle.items.specs.declared.Slot.{Slot}
-use Rattle.builder.specs.Placed.{Placed, fine, refusal, placed}
+use Rattle.builder.specs.Placed.{fine, placed}
 use Rattle.builder.specs.Rules.{setDate, setTime, setDateTime, setItem, gather, relatives, gathered}
 use Rattle.builder.specs.Building.{needMidnight, start, onDate, onTime, onWeekday, addRelative, addRelatives, onZone, absolute, buildExtended, build}
-use Rattle.builder.specs.declared.RelativePlace.{RelativePlace}
 use Rattle.builder.specs.declared.DateTimeBuilder.{DateTimeBuilder}
 use Rattle.builder.specs.declared.GivenDate.the-variants as given-date
 use Rattle.builder.specs.declared.GivenTime.the-variants as given-time

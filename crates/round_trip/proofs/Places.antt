@@ -1,7 +1,7 @@
 -- The place of a refusal is never past the text, nor past the 64 items. Assumes nothing.
 use native.Mathlib.Omega.{arith}
 use Prim.Native.Nat.{ℕ, zero, suc, _+_, _≤_}
-use mathlib.Core.Path.{_≡_, refl, sym, ap, _∙_}
+use mathlib.Core.Path.{_≡_, refl}
 use mathlib.Core.Bool.{Bool, true, false}
 use mathlib.Core.List.{List, [], _∷_, _++_}
 use lib.Dec.{ltb, leb, eqb}
@@ -13,7 +13,6 @@ use Rattle.extended.specs.declared.ExtendedDateTime.{ExtendedDateTime}
 use Rattle.primitive.specs.Answer.{Answer, matched, none, stop, if}
 use Rattle.primitive.specs.Text.{lowered, run, past}
 use Rattle.primitive.specs.Primitive.{space}
-use Rattle.primitive.proofs.Lowered.{length-lowered}
 use Rattle.items.specs.Items.{Parsed, ended, further, itemsFrom, parse-item, parse-items}
 use Rattle.items.specs.declared.Item.{Item}
 use Rattle.items.specs.declared.Slot.{Slot}

@@ -2,29 +2,27 @@
 use native.Mathlib.Omega.{arith}
 use borrow.Author.Tests.{le-leb, leb-true, lt-ltb}
 use native.Mathlib.Nat.{zero-add}
-use Prim.Native.Nat.{ℕ, zero, suc, _+_, _^_, _<_, _≤_}
-use mathlib.Core.Path.{_≡_, refl, sym, ap, _∙_}
-use mathlib.Core.Bool.{Bool, true, false, _&&_}
+use Prim.Native.Nat.{ℕ, _+_, _^_, _<_, _≤_}
+use mathlib.Core.Path.{_≡_, refl, _∙_}
+use mathlib.Core.Bool.{Bool, true, false}
 use mathlib.Core.List.{List, [], _∷_, _++_}
-use lib.Dec.{ltb, leb, eqb}
-use lib.IntN.{ℤ, pos}
-use lib.ListN.{length, drop, length-append}
-use Rattle.extended.specs.Outcome.{Outcome, accepted}
+use lib.Dec.{ltb, leb}
+use lib.ListN.{length, length-append}
+use Rattle.extended.specs.Outcome.{accepted}
 use Rattle.extended.specs.Extended.{test, addSeconds}
 use Rattle.extended.specs.declared.ExtendedDateTime.{ExtendedDateTime}
 use Rattle.extended.proofs.Records.{facts}
 use Rattle.primitive.specs.Text.{lowered, bytes, digit, run, past}
-use Rattle.primitive.specs.Primitive.{decimal}
 use Rattle.primitive.specs.Ordinal.{signed}
 use Rattle.primitive.proofs.Rows.{all, halves}
 use Rattle.relative.specs.declared.Relative.the-variants.{Seconds}
 use Rattle.items.specs.Items.{ended, parse-items}
 use Rattle.items.specs.declared.Item.the-variants as item
 use Rattle.items.specs.declared.Slot.{Slot}
-use Rattle.forms.proofs.TwoItems.{momentText, momentItem, shiftText, one-item-text, two-items-text, both-lowered}
-use Rattle.builder.specs.Placed.{Placed, fine, refusal, placed, _>>=_}
+use Rattle.forms.proofs.TwoItems.{shiftText, one-item-text, two-items-text, both-lowered}
+use Rattle.builder.specs.Placed.{fine, placed, _>>=_}
 use Rattle.builder.specs.Building.{build}
-use Rattle.writer.specs.Writer.{width, digits, wholeMinutes, textOf}
+use Rattle.writer.specs.Writer.{digits, wholeMinutes, textOf}
 use Rattle.writer.proofs.Digits.{all-join, all-also, digits-value, digits-number, digits-length, width-most}
 use Rattle.writer.proofs.Texts.{text-long, text-ascii, text-lowered}
 use Rattle.reading.specs.Reading.{ascii, asciiEnd, itemsOf, buildText, readLowered, readText}

@@ -1,13 +1,12 @@
 -- The digits of a written record are in range, and their item has the record's own fields. Assumes nothing.
 use native.Mathlib.Omega.{arith}
 use borrow.Author.Tests.{le-leb, ltb-false, eq-eqb, eqb-true}
-use Prim.Native.Nat.{ℕ, suc, _+_, _*_, _/_, _%_, _^_, _<_, _≤_}
-use mathlib.Core.Path.{_≡_, refl, sym, ap, _∙_}
+use Prim.Native.Nat.{ℕ, _/_, _%_, _<_, _≤_}
+use mathlib.Core.Path.{_≡_, refl, ap, _∙_}
 use mathlib.Core.Bool.{Bool, true, false, _&&_, _||_}
-use mathlib.Core.List.{List, []}
+use mathlib.Core.List.{[]}
 use lib.Dec.{leb, ltb, eqb}
 use lib.IntN.{ℤ, pos, negsuc, natAbs}
-use lib.ListN.{length}
 use Rattle.extended.specs.Outcome.{accepted}
 use Rattle.extended.specs.Calendar.{monthDays}
 use Rattle.extended.specs.Extended.{test}
@@ -24,7 +23,6 @@ use Rattle.times.specs.Offset.{inRange, totalSeconds}
 use Rattle.times.specs.declared.offset.Offset.{Offset}
 use Rattle.times.specs.declared.time.TimeOffset.the-variants as zone
 use Rattle.items.specs.declared.combined.DateTime.{DateTime}
-use Rattle.items.specs.declared.Item.{Item}
 use Rattle.items.specs.declared.Item.the-variants as item
 use Rattle.forms.proofs.TwoItems.{Digits, Sound, momentText, momentItem, long-year, nine-digits}
 use Rattle.writer.specs.Writer.{fixed, padded, negative, wholeMinutes, textOf}

@@ -3,11 +3,10 @@
 -- refuses none of the numbers of r; `moment` is the counted calendar's, in whole numbers without bound. Assumes nothing.
 use native.Mathlib.Omega.{arith}
 use borrow.Author.Tests.{le-leb}
-use Prim.Native.Nat.{ℕ, _+_, _/_, _%_, _^_, _<_, _≤_}
+use Prim.Native.Nat.{ℕ, _+_, _/_, _%_, _<_, _≤_}
 use mathlib.Core.Path.{_≡_, refl, sym, ap, ap₂, _∙_}
 use mathlib.Core.Bool.{Bool, true, false}
 use mathlib.Core.List.{List, _∷_, _++_}
-use lib.Dec.{leb}
 use lib.IntN.{ℤ, pos, _+ℤ_, +ℤ-idr}
 use lib.ListN.{length, take, drop}
 use lib.Seq.{take-append-seam, drop-append-seam}
@@ -19,7 +18,7 @@ use Rattle.extended.proofs.Records.{facts}
 use Rattle.extended.proofs.Theorems.{Recorded, from-unix-seconds-exact, seconds-exact, seconds-refused}
 use Rattle.primitive.specs.Ordinal.{signed}
 use Rattle.primitive.specs.Text.{bytes}
-use Rattle.builder.specs.Placed.{Placed, fine, placed}
+use Rattle.builder.specs.Placed.{placed}
 use Rattle.writer.specs.Writer.{digits, signOf, wholeMinutes, textOf, written, bytesOf, writtenAnswer, over}
 use Rattle.writer.specs.declared.Written.{Written}
 use Rattle.writer.proofs.Texts.{text-long}
