@@ -29,106 +29,25 @@ use Rattle.items.specs.declared.Weekday.{Weekday}
 use Rattle.items.specs.declared.Pure.{Pure}
 use Rattle.items.specs.declared.Item.{Item}
 use Rattle.items.specs.declared.Item.the-variants as item
-use Rattle.builder.specs.Placed as placed
-use Rattle.builder.specs.Placed.{fine, refusal}
-use Rattle.builder.specs.Rules.{setDate, setTime, setWeekday, setZone, setDateTime, setPureYear, setPureTime, pureYear, pure, setPure, setItem, rulePlace, relativeOf}
-use Rattle.builder.specs.Building.{yearOr, onDate, onOffset, onTime, forwarded, onWeekday, addRelative, withZone, onZone}
-use Rattle.builder.specs.declared.GivenDate.{GivenDate}
-use Rattle.builder.specs.declared.GivenDate.the-variants as given-date
-use Rattle.builder.specs.declared.GivenTime.{GivenTime}
-use Rattle.builder.specs.declared.GivenTime.the-variants as given-time
-use Rattle.builder.specs.declared.GivenWeekday.{GivenWeekday}
-use Rattle.builder.specs.declared.GivenWeekday.the-variants as given-weekday
-use Rattle.builder.specs.declared.GivenZone.{GivenZone}
-use Rattle.builder.specs.declared.GivenZone.the-variants as given-zone
-use Rattle.builder.specs.declared.DateTimeBuilder.{DateTimeBuilder}
-use Rattle.builder.specs.declared.RelativePlace.{RelativePlace}
-use Rattle.builder.specs.declared.Found.{Found}
+use Rattle.rules.specs.Placed as placed
+use Rattle.rules.specs.Placed.{Placed, fine, refusal}
+use Rattle.rules.specs.Rules.{standingOf}
+use Rattle.rules.specs.declared.Standing.{Standing}
+use Rattle.rules.specs.declared.Standing.the-variants as standing
+use Rattle.rules.proofs.Cases.{chosen, not-chosen}
+use Rattle.builder.specs.Building.{yearOr, onDate, onOffset, onTime, forwarded, onWeekday, addRelative, withZone, onZone, buildExtended, built}
+use Rattle.rules.specs.declared.GivenDate.{GivenDate}
+use Rattle.rules.specs.declared.GivenDate.the-variants as given-date
+use Rattle.rules.specs.declared.GivenTime.{GivenTime}
+use Rattle.rules.specs.declared.GivenTime.the-variants as given-time
+use Rattle.rules.specs.declared.GivenWeekday.{GivenWeekday}
+use Rattle.rules.specs.declared.GivenWeekday.the-variants as given-weekday
+use Rattle.rules.specs.declared.GivenZone.{GivenZone}
+use Rattle.rules.specs.declared.GivenZone.the-variants as given-zone
+use Rattle.rules.specs.declared.DateTimeBuilder.{DateTimeBuilder}
+use Rattle.rules.specs.declared.RelativePlace.{RelativePlace}
+use Rattle.rules.specs.declared.Found.{Found}
 use Rattle.builder.proofs.Chain.{steps}
-
--- ---- rules
-
-module _ (digits : List ℕ) (b : DateTimeBuilder) (r : Outcome DateTimeBuilder) where
-  module _ (p : Pure) where
-    pub pure-dated : (g : GivenDate) (d : Date) → g ≡ given-date.Given d → r ≡ pureYear digits b p d (d .year) → r ≡ pure digits b p g
-    pure-dated g d e k = rw e k
-
-    pub pure-undated : (g : GivenDate) → g ≡ given-date.Absent → r ≡ setPureTime digits b p → r ≡ pure digits b p g
-    pure-undated g e k = rw e k
-
-    pub pure-behind-year : (d : Date) (g : DateYear) (y : ℕ) → g ≡ year.Given y → r ≡ setPureTime digits b p → r ≡ pureYear digits b p d g
-    pure-behind-year d g y e k = rw e k
-
-    pub pure-without-year : (d : Date) (g : DateYear) → g ≡ year.Absent → r ≡ setPureYear digits b d (p .start) (p .start + p .length) → r ≡ pureYear digits b p d g
-    pure-without-year d g e k = rw e k
-
-  module _ (x : Item) where
-    pub item-date-time : (v : DateTime) → x ≡ item.DateTime v → r ≡ setDateTime b v → r ≡ setItem digits b x
-    unfolding setItem
-    item-date-time v e k = rw e k
-
-    pub item-date : (v : Date) → x ≡ item.Date v → r ≡ setDate b v → r ≡ setItem digits b x
-    unfolding setItem
-    item-date v e k = rw e k
-
-    pub item-time : (v : Time) → x ≡ item.Time v → r ≡ setTime b v → r ≡ setItem digits b x
-    unfolding setItem
-    item-time v e k = rw e k
-
-    pub item-weekday : (v : Weekday) → x ≡ item.Weekday v → r ≡ setWeekday b v → r ≡ setItem digits b x
-    unfolding setItem
-    item-weekday v e k = rw e k
-
-    pub item-relative : (v : Relative) → x ≡ item.Relative v → r ≡ accepted b → r ≡ setItem digits b x
-    unfolding setItem
-    item-relative v e k = rw e k
-
-    pub item-offset : (v : Offset) → x ≡ item.Offset v → r ≡ setZone b (given-zone.Offset v) → r ≡ setItem digits b x
-    unfolding setItem
-    item-offset v e k = rw e k
-
-    pub item-local : x ≡ item.LocalZone → r ≡ setZone b given-zone.Local → r ≡ setItem digits b x
-    unfolding setItem
-    item-local e k = rw e k
-
-    pub item-pure : (v : Pure) → x ≡ item.Pure v → r ≡ setPure digits b v → r ≡ setItem digits b x
-    unfolding setItem
-    item-pure v e k = rw e k
-
--- ---- relative items
-
--- the count is 0 or 1
-pub found-few : (r : Found) (p : RelativePlace) (n : ℕ) → r ≡ record { place = p; count = n } → n ≤ 1 → r .count ≤ 1
-found-few r p n e h = rw e h
-
-module _ (r : Found) (x : Item) where
-  abbrev Is : Type 0
-  Is = take (r .count) (r .place ∷ []) ≡ relativeOf x
-
-  pub found-relative : (v : Relative) → x ≡ item.Relative v → r ≡ record { place = record { relative = v }; count = 1 } → Is
-  found-relative v e k = rw (e, k) refl
-
-  module _ (p : RelativePlace) (k : r ≡ record { place = p; count = 0 }) where
-    pub found-local : x ≡ item.LocalZone → Is
-    found-local e = rw (e, k) refl
-
-    pub found-date-time : (v : DateTime) → x ≡ item.DateTime v → Is
-    found-date-time v e = rw (e, k) refl
-
-    pub found-date : (v : Date) → x ≡ item.Date v → Is
-    found-date v e = rw (e, k) refl
-
-    pub found-time : (v : Time) → x ≡ item.Time v → Is
-    found-time v e = rw (e, k) refl
-
-    pub found-weekday : (v : Weekday) → x ≡ item.Weekday v → Is
-    found-weekday v e = rw (e, k) refl
-
-    pub found-offset : (v : Offset) → x ≡ item.Offset v → Is
-    found-offset v e = rw (e, k) refl
-
-    pub found-pure : (v : Pure) → x ≡ item.Pure v → Is
-    found-pure v e = rw (e, k) refl
 
 -- ---- building
 
@@ -205,25 +124,7 @@ module _ (dt : ExtendedDateTime) (r : Outcome ExtendedDateTime) where
     unfolding addRelative
     seconds-added n m e k = rw e k
 
--- ---- choices
-
-module _ {A : Type 0} (t y : Bool) (h : y ≡ t) (p q r : A) where
-  pub chosen : y ≡ true → r ≡ p → r ≡ if t p q
-  chosen e k = rw (← h, e) k
-
-  pub not-chosen : y ≡ false → r ≡ q → r ≡ if t p q
-  not-chosen e k = rw (← h, e) k
-
 -- ---- places
-
-module _ (n i : ℕ) where
-  pub year-place : n ≡ 9 → 0 ≡ rulePlace n i
-  unfolding rulePlace
-  year-place e = rw e
-
-  pub item-place : (n ≡ 9 → ⊥) → i ≡ rulePlace n i
-  unfolding rulePlace
-  item-place h = rw (ne-eqb n 9 h)
 
 module _ (m : Made) where
   pub placed-record : (v : ExtendedDateTime) → m ≡ made.Record v → fine v ≡ placed.placed 0 (madeOf m)
@@ -232,4 +133,13 @@ module _ (m : Made) where
   pub placed-refusal : (n : ℕ) → m ≡ made.Refused n → refusal n 0 ≡ placed.placed 0 (madeOf m)
   placed-refusal n e = rw e
 
-pub ruleset cases = (found-few, found-relative, found-local, found-date-time, found-date, found-time, found-weekday, found-offset, found-pure, pure-dated, pure-undated, pure-behind-year, pure-without-year, item-date-time, item-date, item-time, item-weekday, item-relative, item-offset, item-local, item-pure, date-absent, date-given, offset-absent, offset-given, time-absent, time-given, weekday-absent, weekday-given, zone-absent, zone-local, zone-given, offset-said, years-added, months-added, days-added, hours-added, minutes-added, seconds-added, placed-record, placed-refusal, chosen, not-chosen, year-place, item-place, steps)
+module _ (s : Standing) (rs : List RelativePlace) (base : ExtendedDateTime) where
+  pub built-good : (b : DateTimeBuilder) (m : Made) (r : Placed ExtendedDateTime) → s ≡ standing.Good b → madeOf m ≡ buildExtended b rs base → r ≡ placed.placed 0 (madeOf m) → r ≡ built (standingOf s) rs base
+  unfolding built
+  built-good b m r e g k = rw (e, ← g) k
+
+  pub built-broken : (n at : ℕ) → s ≡ standing.Broken n at → refusal n at ≡ built (standingOf s) rs base
+  unfolding built
+  built-broken n at e = rw e
+
+pub ruleset cases = (date-absent, date-given, offset-absent, offset-given, time-absent, time-given, weekday-absent, weekday-given, zone-absent, zone-local, zone-given, offset-said, years-added, months-added, days-added, hours-added, minutes-added, seconds-added, placed-record, placed-refusal, built-good, built-broken, chosen, not-chosen, steps)

@@ -21,29 +21,25 @@ use Rattle.items.specs.declared.Day.{Day}
 use Rattle.items.specs.declared.Day.the-variants as day
 use Rattle.items.specs.declared.Weekday.{Weekday}
 use Rattle.items.specs.declared.Slot.{Slot}
-use Rattle.builder.specs.Placed as placed
-use Rattle.builder.specs.Placed.{Placed, fine, refusal}
-use Rattle.builder.specs.Rules.{isDate, isTime, isWeekday, isZone, gathered}
-use Rattle.builder.specs.declared.GivenDate.{GivenDate}
-use Rattle.builder.specs.declared.GivenDate.the-variants as given-date
-use Rattle.builder.specs.declared.GivenTime.{GivenTime}
-use Rattle.builder.specs.declared.GivenTime.the-variants as given-time
-use Rattle.builder.specs.declared.GivenWeekday.{GivenWeekday}
-use Rattle.builder.specs.declared.GivenWeekday.the-variants as given-weekday
-use Rattle.builder.specs.declared.GivenZone.{GivenZone}
-use Rattle.builder.specs.declared.GivenZone.the-variants as given-zone
-use Rattle.builder.specs.declared.DateTimeBuilder.{DateTimeBuilder}
-use Rattle.builder.specs.declared.RelativePlace.{RelativePlace}
-use Rattle.builder.specs.declared.building.Days.{Days}
-use Rattle.builder.specs.declared.building.Days.the-variants as days
-use Rattle.builder.specs.declared.building.Built.{Built}
-use Rattle.builder.specs.declared.building.Built.the-variants as done
+use Rattle.rules.specs.Placed as placed
+use Rattle.rules.specs.Placed.{Placed, fine, refusal}
+use Rattle.rules.specs.Rules.{empty, needMidnight, gather, relatives}
+use Rattle.rules.specs.declared.GivenDate.{GivenDate}
+use Rattle.rules.specs.declared.GivenDate.the-variants as given-date
+use Rattle.rules.specs.declared.GivenTime.{GivenTime}
+use Rattle.rules.specs.declared.GivenTime.the-variants as given-time
+use Rattle.rules.specs.declared.GivenWeekday.{GivenWeekday}
+use Rattle.rules.specs.declared.GivenWeekday.the-variants as given-weekday
+use Rattle.rules.specs.declared.GivenZone.{GivenZone}
+use Rattle.rules.specs.declared.GivenZone.the-variants as given-zone
+use Rattle.rules.specs.declared.DateTimeBuilder.{DateTimeBuilder}
+use Rattle.rules.specs.declared.RelativePlace.{RelativePlace}
+use Rattle.builder.specs.declared.Days.{Days}
+use Rattle.builder.specs.declared.Days.the-variants as days
+use Rattle.builder.specs.declared.Built.{Built}
+use Rattle.builder.specs.declared.Built.the-variants as done
 
 -- ---- the clock at the start
-
--- "The clock is set to midnight by a date, time or weekday, and by a zone item only where there is no relative item."
-unfoldable pub needMidnight : DateTimeBuilder → Bool → Bool
-needMidnight b bare = isDate (b .date) || (isTime (b .time) || (isWeekday (b .weekday) || (isZone (b .zone) && bare)))
 
 unfoldable pub start : DateTimeBuilder → Bool → ExtendedDateTime → Outcome ExtendedDateTime
 start b bare base = if (needMidnight b bare) (withTime base (time 0 0 0 0)) (accept base)
@@ -164,9 +160,13 @@ buildExtended b rs base = do
   moved ← addRelatives rs r
   onZone (b .zone) moved
 
+-- what the items give, if no rule is broken
+unfoldable pub built : Placed DateTimeBuilder → List RelativePlace → ExtendedDateTime → Placed ExtendedDateTime
+built p rs base = placed._>>=_ p (λ b. placed.placed 0 (buildExtended b rs base))
+
 -- The rules of all items come before anything is done.
 unfoldable pub build : List ℕ → List Slot → ExtendedDateTime → Placed ExtendedDateTime
-build digits xs base = placed._>>=_ (gathered digits xs) (λ p. placed.placed 0 (buildExtended (p .builder) (p .relatives) base))
+build digits xs base = built (gather digits 0 empty xs) (relatives xs) base
 
 -- ---- the code's answer
 

@@ -1,4 +1,2 @@
--- The definitions of the crate `builder`, in reading order.
-pub mod Placed
-pub mod Rules
+-- The definitions of the crate `builder`.
 pub mod Building

@@ -1,381 +1,285 @@
-// From items to a record, as in items/builder.rs: the rules of which items may stand together, in item order, and then the building of the
-// record from the base. The relative items are kept in 64 places and a count, filled by the loop over the items; the builder itself holds
-// at most one item of each other kind, and goes by value.
+// The building of a record from the base and what the items give, as `build_extended` in items/builder.rs.
 
-pub mod building;
-
-use dates::date::Date;
 use dates::date::DateYear;
-use items::Item;
-use items::Pure;
-use items::Slot;
+use extended::DateParts;
+use extended::DayCount;
+use extended::ExtendedDateTime;
+use extended::Made;
+use extended::TimeParts;
+use integers::Checked;
+use integers::Natural;
+use items::Day;
 use items::Weekday;
-use items::combined::DateTime;
-use primitive::ReadU32;
-use primitive::ReadU64;
 use relative::Relative;
-use times::offset::Offset;
+use rules::DateTimeBuilder;
+use rules::GivenDate;
+use rules::GivenTime;
+use rules::GivenWeekday;
+use rules::GivenZone;
+use rules::RelativePlace;
+use rules::Standing;
+use times::offset::Normalized;
 use times::time::Time;
 use times::time::TimeOffset;
 ghost use mathlib.Core.Path.{_≡_};
-ghost use mathlib.Core.Bool.{_&&_, _||_};
-ghost use mathlib.Core.List.{[], _∷_};
-ghost use Prim.Native.Nat.{_≤_, min};
+ghost use Prim.Native.Nat.{min};
 ghost use lib.ListN.{take};
-ghost use Rattle.primitive.specs.Text.{lowered};
-ghost use Rattle.builder.specs.Rules.{isDate, isTime, isWeekday, isZone, isOffset, hasOffset, empty, setDate, setTime, setWeekday, setZone, setDateTime, setPureYear, setPureTime, setPure, setItem, rulePlace, relativeOf, pureYear, clock, setHour, setHourAndMinute, gathered, setOf, gatheredOf};
+ghost use Rattle.extended.specs.Extended.{madeOf, accept};
+ghost use Rattle.rules.specs.Placed.{placed};
+ghost use Rattle.rules.specs.Rules.{standingOf};
+ghost use Rattle.builder.specs.Building.{start, yearOr, onDate, onOffset, onTime, dayIndex, ahead, weeks, inI32, weekdaySum, delta, forwarded, onWeekday, addRelative, addRelatives, withZone, onZone, absolute, buildExtended, built, builtOf, daysOf};
 
-pub enum GivenDate {
-    Given(Date),
-    Absent,
+// A record, or the number and the place of a refusal.
+pub enum Built {
+    Record(ExtendedDateTime),
+    Refused(u32, usize),
 }
 
-pub enum GivenTime {
-    Given(Time),
-    Absent,
-}
-
-pub enum GivenWeekday {
-    Given(Weekday),
-    Absent,
-}
-
-// A zone item: an offset, or the military letter `j` for local time, which has no offset of its own.
-pub enum GivenZone {
-    Offset(Offset),
-    Local,
-    Absent,
-}
-
-pub struct DateTimeBuilder {
-    pub date: GivenDate,
-    pub time: GivenTime,
-    pub weekday: GivenWeekday,
-    pub zone: GivenZone,
-}
-
-// The builder with one item more, or the number of the rule that the item breaks.
-pub enum Set {
-    Done(DateTimeBuilder),
+// Days to be added, or the number of a refusal.
+enum Days {
+    Add(i64),
     Refused(u32),
 }
 
-// One relative item of many.
-pub struct RelativePlace {
-    pub relative: Relative,
-}
-
-// The number and the place of the first rule that is broken, if one is.
-pub enum Broken {
-    No,
-    Rule(u32, usize),
-}
-
-// What the items give, if no rule is broken: the builder and the relative items, of which the first `count` places hold one each.
-pub struct Gathered {
-    pub builder: DateTimeBuilder,
-    pub relatives: [RelativePlace; 64],
-    pub count: usize,
-    pub broken: Broken,
-}
-
-impl DateTimeBuilder {
-    pub fn new() -> DateTimeBuilder
-        ensures { λ r. ⌜ r ≡ empty ⌝ }
-    {
-        DateTimeBuilder {
-            date: GivenDate::Absent,
-            time: GivenTime::Absent,
-            weekday: GivenWeekday::Absent,
-            zone: GivenZone::Absent,
-        }
-    }
-
-    pub(crate) fn set_date(self, date: Date) -> Set
-        ensures { λ r. ⌜ setOf r ≡ setDate self date ⌝ }
-    {
-        let given = self.date;
-        if date_given(given) {
-            return Set::Refused(6);
-        }
-        let date = GivenDate::Given(date);
-        let time = self.time;
-        let weekday = self.weekday;
-        let zone = self.zone;
-        Set::Done(DateTimeBuilder {
-            date,
-            time,
-            weekday,
-            zone,
-        })
-    }
-
-    pub(crate) fn set_time(self, time: Time) -> Set
-        ensures { λ r. ⌜ setOf r ≡ setTime self time ⌝ }
-    {
-        let given = self.time;
-        if time_given(given) {
-            return Set::Refused(6);
-        }
-        let zone = self.zone;
-        let offset = time.offset;
-        if rival(zone, offset) {
-            return Set::Refused(7);
-        }
-        let date = self.date;
-        let time = GivenTime::Given(time);
-        let weekday = self.weekday;
-        Set::Done(DateTimeBuilder {
-            date,
-            time,
-            weekday,
-            zone,
-        })
-    }
-
-    pub(crate) fn set_weekday(self, weekday: Weekday) -> Set
-        ensures { λ r. ⌜ setOf r ≡ setWeekday self weekday ⌝ }
-    {
-        let given = self.weekday;
-        if weekday_given(given) {
-            return Set::Refused(6);
-        }
-        let date = self.date;
-        let time = self.time;
-        let weekday = GivenWeekday::Given(weekday);
-        let zone = self.zone;
-        Set::Done(DateTimeBuilder {
-            date,
-            time,
-            weekday,
-            zone,
-        })
-    }
-
-    // The Rust's `set_offset` and `set_local_zone`: both take the one place of a zone.
-    pub(crate) fn set_zone(self, zone: GivenZone) -> Set
-        ensures { λ r. ⌜ setOf r ≡ setZone self zone ⌝ }
-    {
-        let given = self.zone;
-        let time = self.time;
-        if zone_taken(given, time) {
-            return Set::Refused(6);
-        }
-        let date = self.date;
-        let weekday = self.weekday;
-        Set::Done(DateTimeBuilder {
-            date,
-            time,
-            weekday,
-            zone,
-        })
-    }
-
-    fn set_date_time(self, both: DateTime) -> Set
-        ensures { λ r. ⌜ setOf r ≡ setDateTime self both ⌝ }
-    {
-        let date = both.date;
-        let time = both.time;
-        match self.set_date(date) {
-            Set::Done(next) => next.set_time(time),
-            Set::Refused(number) => Set::Refused(number),
-        }
-    }
-
-    // A pure number is the year of a date that has none, or else a time. Its digits stand in `digits`.
-    pub(crate) fn set_pure(self, digits: &[u8], pure: Pure) -> Set
-        ensures { λ r. ⌜ setOf r ≡ setPure (lowered (now (digits .entry))) self pure ⌝ }
-    {
-        let given = self.date;
-        match given {
-            GivenDate::Given(date) => self.set_pure_behind(digits, pure, date),
-            GivenDate::Absent => self.set_pure_time(digits, pure),
-        }
-    }
-
-    fn set_pure_behind(self, digits: &[u8], pure: Pure, date: Date) -> Set
-        ensures { λ r. ⌜ setOf r ≡ pureYear (lowered (now (digits .entry))) self pure date (date .year) ⌝ }
-    {
-        let year = date.year;
-        match year {
-            DateYear::Given(_) => self.set_pure_time(digits, pure),
-            DateYear::Absent => {
-                let from = pure.start as usize;
-                self.set_pure_year(digits, date, from, from + pure.length as usize)
-            }
-        }
-    }
-
-    fn set_pure_year(self, digits: &[u8], date: Date, from: usize, to: usize) -> Set
-        ensures { λ r. ⌜ setOf r ≡ setPureYear (lowered (now (digits .entry))) self date from to ⌝ }
-    {
-        let ReadU32::Match(year, _) = dates::year::year_from_str(digits, from, to) else {
-            return Set::Refused(9);
-        };
-        let date = Date {
-            day: date.day,
-            month: date.month,
-            year: DateYear::Given(year),
-        };
-        let date = GivenDate::Given(date);
-        let time = self.time;
-        let weekday = self.weekday;
-        let zone = self.zone;
-        Set::Done(DateTimeBuilder {
-            date,
-            time,
-            weekday,
-            zone,
-        })
-    }
-
-    fn set_pure_time(self, digits: &[u8], pure: Pure) -> Set
-        ensures { λ r. ⌜ setOf r ≡ setPureTime (lowered (now (digits .entry))) self pure ⌝ }
-    {
-        if pure.length < 1 {
-            return Set::Refused(8);
-        }
-        if pure.length > 4 {
-            return Set::Refused(8);
-        }
-        let from = pure.start as usize;
-        let to = from + pure.length as usize;
-        if pure.length <= 2 {
-            return self.set_hour(digits, from, to);
-        }
-        self.set_hour_and_minute(digits, from, to - 2, to)
-    }
-
-    fn set_hour(self, digits: &[u8], from: usize, to: usize) -> Set
-        ensures { λ r. ⌜ setOf r ≡ setHour (lowered (now (digits .entry))) self from to ⌝ }
-    {
-        let ReadU64::Match(hour, _) = primitive::parse_uint(digits, from, to, 23) else {
-            return Set::Refused(8);
-        };
-        self.set_clock(hour as u8, 0)
-    }
-
-    fn set_hour_and_minute(self, digits: &[u8], from: usize, middle: usize, to: usize) -> Set
-        ensures { λ r. ⌜ setOf r ≡ setHourAndMinute (lowered (now (digits .entry))) self from middle to ⌝ }
-    {
-        let ReadU64::Match(hour, _) = primitive::parse_uint(digits, from, middle, 23) else {
-            return Set::Refused(8);
-        };
-        let ReadU64::Match(minute, _) = primitive::parse_uint(digits, middle, to, 59) else {
-            return Set::Refused(8);
-        };
-        self.set_clock(hour as u8, minute as u8)
-    }
-
-    fn set_clock(self, hour: u8, minute: u8) -> Set
-        ensures { λ r. ⌜ setOf r ≡ setTime self (clock hour minute) ⌝ }
-    {
-        let time = Time {
-            hour,
-            minute,
-            second: 0,
-            nanosecond: 0,
-            offset: TimeOffset::NotGiven,
-        };
-        self.set_time(time)
-    }
-
-    // One item more. A relative item is kept by the caller.
-    pub fn set_item(self, digits: &[u8], item: Item) -> Set
-        ensures { λ r. ⌜ setOf r ≡ setItem (lowered (now (digits .entry))) self item ⌝ }
-    {
-        match item {
-            Item::DateTime(both) => self.set_date_time(both),
-            Item::Date(date) => self.set_date(date),
-            Item::Time(time) => self.set_time(time),
-            Item::Weekday(weekday) => self.set_weekday(weekday),
-            Item::Relative(_) => Set::Done(self),
-            Item::Offset(offset) => self.set_zone(GivenZone::Offset(offset)),
-            Item::LocalZone => self.set_zone(GivenZone::Local),
-            Item::Pure(pure) => self.set_pure(digits, pure),
-        }
-    }
-}
-
-fn date_given(date: GivenDate) -> bool
-    ensures { λ r. ⌜ r ≡ isDate date ⌝ }
+// The record of items, of which the first `count` relative ones count.
+pub fn build(
+    standing: Standing,
+    relatives: [RelativePlace; 64],
+    count: usize,
+    base: ExtendedDateTime,
+) -> Built
+    ensures { λ r. ⌜ builtOf r ≡ built (standingOf standing) (take count relatives) base ⌝ }
 {
-    match date {
-        GivenDate::Given(_) => true,
-        GivenDate::Absent => false,
+    match standing {
+        Standing::Good(builder) => placed(build_extended(builder, relatives, count, base)),
+        Standing::Broken(number, place) => Built::Refused(number, place),
     }
 }
 
-fn time_given(time: GivenTime) -> bool
-    ensures { λ r. ⌜ r ≡ isTime time ⌝ }
+fn placed(made: Made) -> Built
+    ensures { λ r. ⌜ builtOf r ≡ placed 0 (madeOf made) ⌝ }
 {
-    match time {
-        GivenTime::Given(_) => true,
-        GivenTime::Absent => false,
+    match made {
+        Made::Record(dt) => Built::Record(dt),
+        Made::Refused(number) => Built::Refused(number, 0),
     }
 }
 
-fn weekday_given(weekday: GivenWeekday) -> bool
-    ensures { λ r. ⌜ r ≡ isWeekday weekday ⌝ }
+// The first `count` relative items count.
+pub(crate) fn build_extended(
+    builder: DateTimeBuilder,
+    relatives: [RelativePlace; 64],
+    count: usize,
+    base: ExtendedDateTime,
+) -> Made
+    ensures { λ r. ⌜ madeOf r ≡ buildExtended builder (take count relatives) base ⌝ }
 {
-    match weekday {
-        GivenWeekday::Given(_) => true,
-        GivenWeekday::Absent => false,
+    let made = absolute(builder, count == 0, base);
+    let Made::Record(dt) = made else {
+        return made;
+    };
+    let made = add_relatives(relatives, count, dt);
+    let Made::Record(dt) = made else {
+        return made;
+    };
+    let zone = builder.zone;
+    on_zone(zone, dt)
+}
+
+// The clock at its start, and then the date, the time and the weekday. `bare`: there is no relative item.
+fn absolute(builder: DateTimeBuilder, bare: bool, base: ExtendedDateTime) -> Made
+    ensures { λ r. ⌜ madeOf r ≡ absolute builder bare base ⌝ }
+{
+    let made = start(builder, bare, base);
+    let Made::Record(dt) = made else {
+        return made;
+    };
+    let date = builder.date;
+    let made = on_date(date, dt);
+    let Made::Record(dt) = made else {
+        return made;
+    };
+    let time = builder.time;
+    let made = on_time(time, dt);
+    let Made::Record(dt) = made else {
+        return made;
+    };
+    let weekday = builder.weekday;
+    on_weekday(weekday, dt)
+}
+
+fn start(builder: DateTimeBuilder, bare: bool, base: ExtendedDateTime) -> Made
+    ensures { λ r. ⌜ madeOf r ≡ start builder bare base ⌝ }
+{
+    if builder.need_midnight(bare) {
+        return base.with_time(0, 0, 0, 0);
+    }
+    accept(base)
+}
+
+// The base itself, if it is accepted.
+fn accept(base: ExtendedDateTime) -> Made
+    ensures { λ r. ⌜ madeOf r ≡ accept base ⌝ }
+{
+    let date = DateParts {
+        year: base.year,
+        month: base.month,
+        day: base.day,
+    };
+    let time = TimeParts {
+        hour: base.hour,
+        minute: base.minute,
+        second: base.second,
+        nanosecond: base.nanosecond,
+    };
+    ExtendedDateTime::new(date, time, base.offset_seconds)
+}
+
+fn on_date(given: GivenDate, dt: ExtendedDateTime) -> Made
+    ensures { λ r. ⌜ madeOf r ≡ onDate given dt ⌝ }
+{
+    let GivenDate::Given(date) = given else {
+        return Made::Record(dt);
+    };
+    let year = date.year;
+    dt.with_date(year_or(dt.year, year), date.month, date.day)
+}
+
+fn year_or(base: u32, year: DateYear) -> u32
+    ensures { λ r. ⌜ r ≡ yearOr base year ⌝ }
+{
+    match year {
+        DateYear::Given(year) => year,
+        DateYear::Absent => base,
     }
 }
 
-fn zone_given(zone: GivenZone) -> bool
-    ensures { λ r. ⌜ r ≡ isZone zone ⌝ }
+fn on_time(given: GivenTime, dt: ExtendedDateTime) -> Made
+    ensures { λ r. ⌜ madeOf r ≡ onTime given dt ⌝ }
 {
-    match zone {
-        GivenZone::Offset(_) => true,
-        GivenZone::Local => true,
-        GivenZone::Absent => false,
+    let GivenTime::Given(time) = given else {
+        return Made::Record(dt);
+    };
+    let offset = time.offset;
+    let made = on_offset(offset, dt);
+    let Made::Record(dt) = made else {
+        return made;
+    };
+    dt.with_time(time.hour, time.minute, time.second, time.nanosecond)
+}
+
+fn on_offset(given: TimeOffset, dt: ExtendedDateTime) -> Made
+    ensures { λ r. ⌜ madeOf r ≡ onOffset given dt ⌝ }
+{
+    let TimeOffset::Given(offset) = given else {
+        return Made::Record(dt);
+    };
+    dt.with_offset(offset.total_seconds())
+}
+
+// The clock stands at midnight or at the time that is given.
+fn on_weekday(given: GivenWeekday, dt: ExtendedDateTime) -> Made
+    ensures { λ r. ⌜ madeOf r ≡ onWeekday given dt ⌝ }
+{
+    let GivenWeekday::Given(weekday) = given else {
+        return Made::Record(dt);
+    };
+    match dt.weekday_monday0() {
+        DayCount::Days(today) => forwarded(weekday, today, dt),
+        DayCount::Refused(number) => Made::Refused(number),
     }
 }
 
-fn offset_given(offset: TimeOffset) -> bool
-    ensures { λ r. ⌜ r ≡ isOffset offset ⌝ }
+// Forward from today to the weekday.
+fn forwarded(weekday: Weekday, today: u32, dt: ExtendedDateTime) -> Made
+    ensures { λ r. ⌜ madeOf r ≡ forwarded weekday today dt ⌝ }
 {
-    match offset {
-        TimeOffset::Given(_) => true,
-        TimeOffset::NotGiven => false,
+    match delta(weekday, today) {
+        Days::Add(days) => dt.checked_add_days(days),
+        Days::Refused(number) => Made::Refused(number),
     }
 }
 
-fn time_offset_given(time: GivenTime) -> bool
-    ensures { λ r. ⌜ r ≡ hasOffset time ⌝ }
+// The days from today to the weekday.
+fn delta(weekday: Weekday, today: u32) -> Days
+    ensures { λ r. ⌜ daysOf r ≡ delta weekday today ⌝ }
 {
-    match time {
-        GivenTime::Given(time) => {
-            let offset = time.offset;
-            offset_given(offset)
-        }
-        GivenTime::Absent => false,
+    let day = weekday.day;
+    let target = day_index(day);
+    weekday_sum(weeks(weekday.offset, today == target), ahead(today, target))
+}
+
+fn day_index(day: Day) -> u32
+    ensures { λ r. ⌜ r ≡ dayIndex day ⌝ }
+{
+    match day {
+        Day::Monday => 0,
+        Day::Tuesday => 1,
+        Day::Wednesday => 2,
+        Day::Thursday => 3,
+        Day::Friday => 4,
+        Day::Saturday => 5,
+        Day::Sunday => 6,
     }
 }
 
-// A time with an offset beside a zone.
-fn rival(zone: GivenZone, offset: TimeOffset) -> bool
-    ensures { λ r. ⌜ r ≡ isZone zone && isOffset offset ⌝ }
+// The days from one day of the week to the next that is another, 0 to itself.
+fn ahead(today: u32, target: u32) -> u32
+    ensures { λ r. ⌜ r ≡ ahead today target ⌝ }
 {
-    if zone_given(zone) {
-        return offset_given(offset);
-    }
-    false
+    (target % 7 + 7 - today % 7) % 7
 }
 
-fn zone_taken(zone: GivenZone, time: GivenTime) -> bool
-    ensures { λ r. ⌜ r ≡ isZone zone || hasOffset time ⌝ }
+// The weeks to go forward: one less where the day itself lies ahead.
+fn weeks(offset: i32, same: bool) -> i64
+    ensures { λ r. ⌜ r ≡ weeks offset same ⌝ }
 {
-    if zone_given(zone) {
-        return true;
+    let weeks = integers::widen(offset);
+    if same {
+        return weeks;
     }
-    time_offset_given(time)
+    let Natural::At(count) = integers::to_natural(weeks) else {
+        return weeks;
+    };
+    if count == 0 {
+        return weeks;
+    }
+    (count - 1) as i64
+}
+
+// The Rust's sum is one of i32, and overflows; here it is refused.
+fn weekday_sum(weeks: i64, ahead: u32) -> Days
+    ensures { λ r. ⌜ daysOf r ≡ weekdaySum weeks ahead ⌝ }
+{
+    let Checked::Fits(days) = integers::checked_mul(weeks, 7) else {
+        return Days::Refused(18);
+    };
+    if !in_i32(days) {
+        return Days::Refused(18);
+    }
+    let Checked::Fits(days) = integers::checked_add(days, ahead as i64) else {
+        return Days::Refused(18);
+    };
+    if !in_i32(days) {
+        return Days::Refused(18);
+    }
+    Days::Add(days)
+}
+
+fn in_i32(x: i64) -> bool
+    ensures { λ r. ⌜ r ≡ inI32 x ⌝ }
+{
+    if x < -2147483648 {
+        return false;
+    }
+    if x > 2147483647 {
+        return false;
+    }
+    true
 }
 
 // No array here has more places than 64.
-pub(crate) fn at_most_64(count: usize) -> usize
+fn at_most_64(count: usize) -> usize
     ensures { λ r. ⌜ r ≡ min count 64 ⌝ }
 {
     if count < 64 {
@@ -384,84 +288,58 @@ pub(crate) fn at_most_64(count: usize) -> usize
     64
 }
 
-// The place of a broken rule: the item's index, and 0 for a year that a pure number gives.
-fn rule_place(number: u32, index: usize) -> usize
-    ensures { λ r. ⌜ r ≡ rulePlace number index ⌝ }
-{
-    if number == 9 {
-        return 0;
-    }
-    index
-}
-
-// A place for a relative item, and whether the item is one: 1, or 0 and the place holds nothing of the item.
-struct Found {
-    place: RelativePlace,
-    count: usize,
-}
-
-fn relative_of(item: Item) -> Found
-    ensures { λ r. ⌜ (take (r .count) (r .place ∷ []) ≡ relativeOf item) × (r .count ≤ 1) ⌝ }
-{
-    match item {
-        Item::Relative(relative) => place_for(relative, 1),
-        Item::DateTime(_) => place_for(Relative::Days(0), 0),
-        Item::Date(_) => place_for(Relative::Days(0), 0),
-        Item::Time(_) => place_for(Relative::Days(0), 0),
-        Item::Weekday(_) => place_for(Relative::Days(0), 0),
-        Item::Offset(_) => place_for(Relative::Days(0), 0),
-        Item::LocalZone => place_for(Relative::Days(0), 0),
-        Item::Pure(_) => place_for(Relative::Days(0), 0),
-    }
-}
-
-fn place_for(relative: Relative, count: usize) -> Found
-    ensures { λ r. ⌜ r ≡ record { place = record { relative = relative }; count = count } ⌝ }
-{
-    Found {
-        place: RelativePlace { relative },
-        count,
-    }
-}
-
-// The rules of the first `count` items, in their order, and the relative items among them.
-pub(crate) fn gather(slots: [Slot; 64], count: usize, digits: &[u8]) -> Gathered
-    ensures { λ r. ⌜ gatheredOf r ≡ gathered (lowered (now (digits .entry))) (take count slots) ⌝ }
+fn add_relatives(relatives: [RelativePlace; 64], count: usize, dt: ExtendedDateTime) -> Made
+    ensures { λ r. ⌜ madeOf r ≡ addRelatives (take count relatives) dt ⌝ }
 {
     let last = at_most_64(count);
-    let mut builder = DateTimeBuilder::new();
-    let none = RelativePlace {
-        relative: Relative::Days(0),
-    };
-    let mut relatives = [none; 64];
-    let mut found = 0;
+    let mut dt = dt;
     let mut i = 0;
     while i < last {
-        let slot = slots[i];
-        let item = slot.item;
-        match builder.set_item(digits, item) {
-            Set::Done(next) => {
-                builder = next;
-                let more = relative_of(item);
-                let place = more.place;
-                relatives[found] = place;
-                found += more.count;
-                i += 1;
+        let place = relatives[i];
+        let relative = place.relative;
+        match add_relative(relative, dt) {
+            Made::Record(next) => {
+                dt = next;
             }
-            Set::Refused(number) => {
-                return Gathered {
-                    builder,
-                    relatives,
-                    count: found,
-                    broken: Broken::Rule(number, rule_place(number, i)),
-                };
+            Made::Refused(number) => {
+                return Made::Refused(number);
             }
         }
+        i += 1;
     }
-    Gathered {
-        builder,
-        relatives,
-        count: found,
-        broken: Broken::No,
+    Made::Record(dt)
+}
+
+fn add_relative(relative: Relative, dt: ExtendedDateTime) -> Made
+    ensures { λ r. ⌜ madeOf r ≡ addRelative relative dt ⌝ }
+{
+    match relative {
+        Relative::Years(years) => dt.checked_add_years(years),
+        Relative::Months(months) => dt.checked_add_months(months),
+        Relative::Days(days) => dt.checked_add_days(integers::widen(days)),
+        Relative::Hours(hours) => dt.checked_add_hours(integers::widen(hours)),
+        Relative::Minutes(minutes) => dt.checked_add_minutes(integers::widen(minutes)),
+        Relative::Seconds(seconds, nanos) => dt.checked_add_seconds(seconds, nanos),
     }
+}
+
+fn on_zone(given: GivenZone, dt: ExtendedDateTime) -> Made
+    ensures { λ r. ⌜ madeOf r ≡ onZone given dt ⌝ }
+{
+    match given {
+        GivenZone::Offset(offset) => with_zone(offset.normalize(), dt),
+        GivenZone::Local => Made::Record(dt),
+        GivenZone::Absent => Made::Record(dt),
+    }
+}
+
+fn with_zone(zone: Normalized, dt: ExtendedDateTime) -> Made
+    ensures { λ r. ⌜ madeOf r ≡ withZone zone dt ⌝ }
+{
+    let made = dt.checked_add_hours(zone.hour_adjustment);
+    let Made::Record(dt) = made else {
+        return made;
+    };
+    let offset = zone.offset;
+    dt.with_offset(offset.total_seconds())
 }

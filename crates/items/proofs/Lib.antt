@@ -1,5 +1,4 @@
 -- The laws and theorems of the crate `items`.
 pub mod Chain
-pub mod Loop
 pub mod Theorems
 pub mod Examples

@@ -6,7 +6,6 @@ use Rattle.primitive.specs.Text.{lowered}
 use Rattle.primitive.proofs.Lowered.{lowered-twice}
 use Rattle.items.specs.Items.{parse-items}
 
--- Upper case changes no answer. `parse_items` answers `parse-items (lowered s)` for the bytes s, so that for their lower case it answers the
--- left side.
+-- Upper case changes no item: for the bytes s a text has the items `parse-items (lowered s)`, and for their lower case those of the left side.
 pub lower-case : (s : List ℕ) → parse-items (lowered (lowered s)) ≡ parse-items (lowered s)
 lower-case s = ap parse-items (lowered-twice s)

@@ -1,7 +1,7 @@
 -- The items of a text, as in items/mod.rs. 29.1: "A date is a string, possibly empty, containing many items separated by whitespace."
 use Prim.Native.Nat.{ℕ, zero, suc}
 use mathlib.Core.List.{List, [], _∷_, _++_}
-use lib.ListN.{length, take}
+use lib.ListN.{length}
 use lib.Dec.{ltb}
 use Rattle.primitive.specs.Answer.{Answer, Reader, matched, none, stop, if, _>>=_, _<|>_, pure}
 use Rattle.primitive.specs.Primitive.{space}
@@ -13,7 +13,6 @@ use Rattle.items.specs.Combined.{parse-time-after-date}
 use Rattle.items.specs.declared.Item.{Item}
 use Rattle.items.specs.declared.Item.the-variants as item
 use Rattle.items.specs.declared.Slot.{Slot}
-use Rattle.items.specs.declared.Items.{Items}
 use Rattle.items.specs.declared.ReadItem.{ReadItem}
 use Rattle.items.specs.declared.ReadItem.the-variants as got
 
@@ -89,9 +88,6 @@ unfoldable pub parse-items : List ℕ → Parsed
 parse-items text = itemsFrom 64 [] text 0
 
 -- ---- the code's answers
-
-abbrev pub itemsAnswer : Items → Parsed
-itemsAnswer r = ended (take (r .count) (r .slots)) (r .number) (r .place)
 
 abbrev pub itemAnswer : ReadItem → Answer Item
 itemAnswer (got.Match v n) = matched v n

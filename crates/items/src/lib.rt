@@ -1,5 +1,5 @@
-// The items of a text, as in items/mod.rs: dates with a time, dates, times and relative items, read one after the other to the end of the
-// text. The other kinds of items come by packet only; their types stand here too.
+// The items of a text, as in items/mod.rs: dates with a time, dates, times and relative items. The other kinds of items come by packet only;
+// their types stand here too.
 
 pub mod combined;
 
@@ -13,10 +13,9 @@ use times::offset::Offset;
 use times::time::ReadTime;
 use times::time::Time;
 ghost use mathlib.Core.Path.{_≡_};
-ghost use Prim.Native.Nat.{_≤_};
 ghost use Rattle.primitive.specs.Text.{lowered};
 ghost use Rattle.dates.specs.Date.{dateAnswer};
-ghost use Rattle.items.specs.Items.{dated-item, iso-date, iso-item, date-item, time-item, relative-item, time-or-relative, other-item, parse-item, parse-items, itemAnswer, itemsAnswer};
+ghost use Rattle.items.specs.Items.{dated-item, iso-date, iso-item, date-item, time-item, relative-item, time-or-relative, other-item, parse-item, itemAnswer};
 
 pub enum Day {
     Monday,
@@ -63,76 +62,8 @@ pub struct Slot {
     pub item: Item,
 }
 
-// The first `count` slots hold the items that were read. `number` is 0 where the text has ended, else that of the refusal.
-pub struct Items {
-    pub slots: [Slot; 64],
-    pub count: usize,
-    pub number: u32,
-    pub place: usize,
-}
-
-// All items of a text, 64 at most: 1 where a 65th is read, 3 where no reader matches and 4 where one stops, these two at the end of the
-// item before.
-pub fn parse_items(s: &[u8]) -> Items
-    ensures { λ r. ⌜ (itemsAnswer r ≡ parse-items (lowered (now (s .entry)))) × (r .count ≤ 64) ⌝ }
-{
-    let empty = Slot {
-        item: Item::LocalZone,
-    };
-    let mut slots = [empty; 64];
-    let mut count = 0;
-    let mut i = 0;
-    while count <= 64 {
-        if s.len() <= primitive::space(s, i) {
-            return Items {
-                slots,
-                count,
-                number: 0,
-                place: 0,
-            };
-        }
-        let read = parse_item(s, i);
-        match read {
-            ReadItem::Match(item, next) => {
-                if count == 64 {
-                    return Items {
-                        slots,
-                        count,
-                        number: 1,
-                        place: 0,
-                    };
-                }
-                slots[count] = Slot { item };
-                count += 1;
-                i = next;
-            }
-            ReadItem::NoMatch => {
-                return Items {
-                    slots,
-                    count,
-                    number: 3,
-                    place: i,
-                };
-            }
-            ReadItem::Stop => {
-                return Items {
-                    slots,
-                    count,
-                    number: 4,
-                    place: i,
-                };
-            }
-        }
-    }
-    Items {
-        slots,
-        count: 0,
-        number: 1,
-        place: 0,
-    }
-}
-
-pub(crate) fn parse_item(s: &[u8], at: usize) -> ReadItem
+// The item at a place.
+pub fn parse_item(s: &[u8], at: usize) -> ReadItem
     ensures { λ r. ⌜ itemAnswer r ≡ parse-item (lowered (now (s .entry))) at ⌝ }
 {
     match iso_item(s, at) {

@@ -8,36 +8,64 @@ use crate::numbers;
 use dates::date::Date;
 use dates::date::DateYear;
 use items::Item;
-use items::Items;
+use items::ReadItem;
 use relative::Relative;
 use times::offset::Offset;
 use times::time::Time;
 use times::time::TimeOffset;
 
 pub fn print_items(text: &[u8]) {
-    let items = items::parse_items(text);
-    if items.number == 0 {
+    let end = walk(text, false);
+    if end.number == 0 {
         io::write_all(1, b"0");
-        print_list(items);
+        walk(text, true);
         return;
     }
-    io::print_decimal(1, items.number as u64);
+    io::print_decimal(1, end.number as u64);
     io::write_all(1, b" ");
-    io::print_decimal(1, items.place as u64);
+    io::print_decimal(1, end.place as u64);
 }
 
-fn print_list(items: Items) {
-    let slots = items.slots;
+// How the reading of a text ends: number 0 at its end, or the number and the place of a refusal.
+struct End {
+    number: u32,
+    place: usize,
+}
+
+// Reads one item after the other, 64 at most, and prints them if that is asked for.
+fn walk(text: &[u8], print: bool) -> End {
+    let mut count = 0usize;
     let mut i = 0usize;
-    while i < items.count {
-        if i >= 64 {
-            return;
+    while primitive::space(text, i) < text.len() {
+        let read = items::parse_item(text, i);
+        match read {
+            ReadItem::Match(item, next) => {
+                if count >= 64 {
+                    return End {
+                        number: 1,
+                        place: 0,
+                    };
+                }
+                if print {
+                    print_separator(count);
+                    print_item(item);
+                }
+                count += 1;
+                i = next;
+            }
+            ReadItem::NoMatch => return End {
+                number: 3,
+                place: i,
+            },
+            ReadItem::Stop => return End {
+                number: 4,
+                place: i,
+            },
         }
-        print_separator(i);
-        let slot = slots[i];
-        let item = slot.item;
-        print_item(item);
-        i += 1;
+    }
+    End {
+        number: 0,
+        place: 0,
     }
 }
 

@@ -6,7 +6,7 @@
 // not ended no more than 4097 bytes: enough to refuse it. What is answered is written before the next read. A write that fails ends the
 // program.
 
-use builder::building::Built;
+use builder::Built;
 use extended::ExtendedDateTime;
 ghost use mathlib.Core.Path.{_≡_};
 ghost use Prim.Native.Nat.{_≤_, _<_};

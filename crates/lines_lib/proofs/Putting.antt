@@ -10,8 +10,8 @@ use lib.Seq.{length-take-le, set-split, take-at, drop-at, drop-append-add, drop-
 use Rattle.extended.specs.Outcome.{Outcome, accepted, refused, number}
 use Rattle.extended.specs.declared.ExtendedDateTime.{ExtendedDateTime}
 use Rattle.builder.specs.Building.{builtOf}
-use Rattle.builder.specs.declared.building.Built.{Built}
-use Rattle.builder.specs.declared.building.Built.the-variants as done
+use Rattle.builder.specs.declared.Built.{Built}
+use Rattle.builder.specs.declared.Built.the-variants as done
 use Rattle.writer.specs.Writer.{fixed, width, digits, written, bytesOf}
 use Rattle.writer.proofs.Digits.{fixed-length, width-some}
 use Rattle.writer.proofs.Filling.{filled}

@@ -7,7 +7,7 @@ use lib.ListN.{length, take, drop}
 use Rattle.extended.specs.Outcome.{Outcome, number}
 use Rattle.extended.specs.declared.ExtendedDateTime.{ExtendedDateTime}
 use Rattle.primitive.specs.Answer.{if}
-use Rattle.builder.specs.Placed.{Placed, fine, refusal}
+use Rattle.rules.specs.Placed.{Placed, fine, refusal}
 use Rattle.writer.specs.Writer.{digits, written, bytesOf}
 
 -- "number and place". A blank is 32, and byte 10 ends the line

@@ -6,7 +6,7 @@ use lib.IntN.{pos}
 use Rattle.extended.specs.Extended.{make, date, time}
 use Rattle.extended.specs.declared.ExtendedDateTime.{ExtendedDateTime}
 use Rattle.primitive.specs.Answer.{if}
-use Rattle.builder.specs.Placed.{Placed, fine, refusal}
+use Rattle.rules.specs.Placed.{Placed, fine, refusal}
 use Rattle.reading.specs.Reading.{readText}
 use Rattle.lines_lib.specs.Answers.{refusalLine, lineAnswer}
 

@@ -1,7 +1,7 @@
 // The answers of the line program, on slices: what is printed for a line, for the whole lines of a chunk of input, and what is kept of a
 // line that has not ended.
 
-use builder::building::Built;
+use builder::Built;
 use extended::ExtendedDateTime;
 use writer::Written;
 ghost use mathlib.Core.Path.{_≡_};

@@ -1,11 +1,10 @@
 -- The laws of reading a text: what each test leaves, in the code's order. Assumes nothing.
 use borrow.Author.Needs.{needs}
-use borrow.Author.Tests.{lt-leb, le-leb, eq-eqb, ne-eqb}
-use native.Mathlib.Omega.{arith}
+use borrow.Author.Tests.{lt-leb, le-leb}
 use Prim.Native.Nat.{ℕ, _<_, _≤_}
 use mathlib.Core.Path.{_≡_}
-use mathlib.Core.List.{List, []}
-use lib.ListN.{length, take}
+use mathlib.Core.List.{List}
+use lib.ListN.{length}
 use Rattle.primitive.specs.Text.{lowered}
 use Rattle.primitive.proofs.Lowered.{length-lowered}
 use Rattle.extended.specs.Outcome.{number}
@@ -13,11 +12,8 @@ use Rattle.extended.specs.Extended.{test}
 use Rattle.extended.specs.declared.ExtendedDateTime.{ExtendedDateTime}
 use Rattle.extended.proofs.Outcomes.{refused-by, passed}
 use Rattle.extended.proofs.Records.{record-proper}
-use Rattle.items.specs.Items.{parse-items, itemsAnswer}
-use Rattle.items.specs.declared.Items.{Items}
-use Rattle.builder.specs.Placed.{Placed, refusal, _>>=_}
-use Rattle.builder.specs.Building.{build}
-use Rattle.reading.specs.Reading.{asciiEnd, itemsOf, buildText, readLowered, readText}
+use Rattle.rules.specs.Placed.{Placed, refusal}
+use Rattle.reading.specs.Reading.{asciiEnd, buildText, readLowered, readText}
 
 module _ (s : List ℕ) (base : ExtendedDateTime) (n : ℕ) (e : n ≡ number (test base)) where
   pub base-refused : 0 < n → refusal n 0 ≡ readText s base
@@ -38,13 +34,4 @@ module _ (s : List ℕ) (base : ExtendedDateTime) (n : ℕ) (e : n ≡ number (t
       unfolding readText readLowered
       all-read k r q = rw (passed (record-proper base) e h, length-lowered s, le-leb (length s) 4096 l, ← g, le-leb (length s) end k) q
 
-module _ (s : List ℕ) (base : ExtendedDateTime) (r : Items) (e : itemsAnswer r ≡ parse-items (lowered s)) where
-  pub items-refused : 0 < r .number → refusal (r .number) (r .place) ≡ buildText (lowered s) base
-  unfolding buildText itemsOf
-  items-refused h = rw (← e, ne-eqb (r .number) 0 (λ z. omega arith))
-
-  pub items-built : r .number ≤ 0 → (v : Placed ExtendedDateTime) → v ≡ build [] (take (r .count) (r .slots)) base → v ≡ buildText (lowered s) base
-  unfolding buildText itemsOf
-  items-built h v k = rw (← e, eq-eqb (r .number) 0 (omega arith)) k
-
-pub ruleset steps = (base-refused, oversize, foreign, all-read, items-refused, items-built, needs)
+pub ruleset steps = (base-refused, oversize, foreign, all-read, needs)

@@ -1,8 +1,11 @@
 // A text read under a base: the base as `new` tests it, the text's length, its first foreign byte, its items, their rules, and the record
 // that they build.
 
-use builder::building::Built;
+use builder::Built;
 use extended::ExtendedDateTime;
+use items::ReadItem;
+use relative::Relative;
+use rules::RelativePlace;
 ghost use mathlib.Core.Path.{_≡_};
 ghost use Rattle.primitive.specs.Text.{lowered};
 ghost use Rattle.builder.specs.Building.{builtOf};
@@ -52,14 +55,41 @@ fn is_ascii(byte: u8) -> bool
     false
 }
 
-// The record of a text's items.
+// The record of a text's items, 64 at most: 1 where a 65th is read, 3 where no reader matches and 4 where one stops, these two at the end
+// of the item before. Each item is heeded as it is read, and none is kept but the relative ones; a broken rule is answered behind the last.
 fn build_text(text: &[u8], base: ExtendedDateTime) -> Built
     ensures { λ r. ⌜ builtOf r ≡ buildText (lowered (now (text .entry))) base ⌝ }
 {
-    let items = items::parse_items(text);
-    if items.number > 0 {
-        return Built::Refused(items.number, items.place);
+    let mut standing = rules::start();
+    let none = RelativePlace {
+        relative: Relative::Days(0),
+    };
+    let mut relatives = [none; 64];
+    let mut found = 0;
+    let mut count = 0;
+    let mut i = 0;
+    while primitive::space(text, i) < text.len() {
+        let read = items::parse_item(text, i);
+        match read {
+            ReadItem::Match(item, next) => {
+                if count == 64 {
+                    return Built::Refused(1, 0);
+                }
+                standing = rules::heed(standing, &text[0..0], item, count);
+                let more = rules::relative_of(item);
+                let place = more.place;
+                relatives[found] = place;
+                found += more.count;
+                count += 1;
+                i = next;
+            }
+            ReadItem::NoMatch => {
+                return Built::Refused(3, i);
+            }
+            ReadItem::Stop => {
+                return Built::Refused(4, i);
+            }
+        }
     }
-    let slots = items.slots;
-    builder::building::build(slots, items.count, &text[0..0], base)
+    builder::build(standing, relatives, found, base)
 }

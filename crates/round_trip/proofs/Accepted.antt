@@ -16,20 +16,20 @@ use Rattle.primitive.specs.Answer.{if}
 use Rattle.relative.specs.declared.Relative.{Relative}
 use Rattle.relative.specs.declared.Relative.the-variants as relative
 use Rattle.items.specs.declared.Slot.{Slot}
-use Rattle.builder.specs.Placed as placed
-use Rattle.builder.specs.Placed.{Placed, fine, refusal}
-use Rattle.builder.specs.Rules.{Parts, gathered}
-use Rattle.builder.specs.Building.{needMidnight, start, onDate, onOffset, onTime, delta, forwarded, onWeekday, addRelative, addRelatives, withZone, onZone, absolute, none, buildExtended, build}
-use Rattle.builder.specs.declared.GivenDate.{GivenDate}
-use Rattle.builder.specs.declared.GivenDate.the-variants as given-date
-use Rattle.builder.specs.declared.GivenTime.{GivenTime}
-use Rattle.builder.specs.declared.GivenTime.the-variants as given-time
-use Rattle.builder.specs.declared.GivenWeekday.{GivenWeekday}
-use Rattle.builder.specs.declared.GivenWeekday.the-variants as given-weekday
-use Rattle.builder.specs.declared.GivenZone.{GivenZone}
-use Rattle.builder.specs.declared.GivenZone.the-variants as given-zone
-use Rattle.builder.specs.declared.DateTimeBuilder.{DateTimeBuilder}
-use Rattle.builder.specs.declared.RelativePlace.{RelativePlace}
+use Rattle.rules.specs.Placed as placed
+use Rattle.rules.specs.Placed.{Placed, fine, refusal}
+use Rattle.rules.specs.Rules.{empty, needMidnight, gather, relatives}
+use Rattle.builder.specs.Building.{start, onDate, onOffset, onTime, delta, forwarded, onWeekday, addRelative, addRelatives, withZone, onZone, absolute, none, buildExtended, built, build}
+use Rattle.rules.specs.declared.GivenDate.{GivenDate}
+use Rattle.rules.specs.declared.GivenDate.the-variants as given-date
+use Rattle.rules.specs.declared.GivenTime.{GivenTime}
+use Rattle.rules.specs.declared.GivenTime.the-variants as given-time
+use Rattle.rules.specs.declared.GivenWeekday.{GivenWeekday}
+use Rattle.rules.specs.declared.GivenWeekday.the-variants as given-weekday
+use Rattle.rules.specs.declared.GivenZone.{GivenZone}
+use Rattle.rules.specs.declared.GivenZone.the-variants as given-zone
+use Rattle.rules.specs.declared.DateTimeBuilder.{DateTimeBuilder}
+use Rattle.rules.specs.declared.RelativePlace.{RelativePlace}
 
 -- each record that an answer gives is accepted
 abbrev pub Good : Outcome ExtendedDateTime → Type 0
@@ -181,13 +181,13 @@ built-good b rs base =
 
 -- What `build` gives is accepted, whatever the items, their digits and the base.
 pub accepted-built : (digits : List ℕ) (xs : List Slot) (base r : ExtendedDateTime) → build digits xs base ≡ fine r → test r ≡ accepted tt
-unfolding build
-accepted-built digits xs base r e = by (gathered digits xs) e
+unfolding build built
+accepted-built digits xs base r e = by (gather digits 0 empty xs) e
   where
     good : (o : Outcome ExtendedDateTime) → Good o → placed.placed 0 o ≡ fine r → test r ≡ accepted tt
     good (accepted s) g h = g r (ap accepted (cc))
     good (refused n) g h = cc
 
-    by : (p : Placed Parts) → placed._>>=_ p (λ q. placed.placed 0 (buildExtended (q .builder) (q .relatives) base)) ≡ fine r → test r ≡ accepted tt
-    by (fine q) h = good (buildExtended (q .builder) (q .relatives) base) (built-good (q .builder) (q .relatives) base) h
+    by : (p : Placed DateTimeBuilder) → placed._>>=_ p (λ b. placed.placed 0 (buildExtended b (relatives xs) base)) ≡ fine r → test r ≡ accepted tt
+    by (fine b) h = good (buildExtended b (relatives xs) base) (built-good b (relatives xs) base) h
     by (refusal n at) h = cc

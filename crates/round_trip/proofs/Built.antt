@@ -14,14 +14,14 @@ use Rattle.relative.specs.declared.Relative.the-variants.{Seconds}
 use Rattle.items.specs.declared.Item.{Item}
 use Rattle.items.specs.declared.Item.the-variants as item
 use Rattle.items.specs.declared.Slot.{Slot}
-use Rattle.builder.specs.Placed.{fine, placed}
-use Rattle.builder.specs.Rules.{setDate, setTime, setDateTime, setItem, gather, relatives, gathered}
-use Rattle.builder.specs.Building.{needMidnight, start, onDate, onTime, onWeekday, addRelative, addRelatives, onZone, absolute, buildExtended, build}
-use Rattle.builder.specs.declared.DateTimeBuilder.{DateTimeBuilder}
-use Rattle.builder.specs.declared.GivenDate.the-variants as given-date
-use Rattle.builder.specs.declared.GivenTime.the-variants as given-time
-use Rattle.builder.specs.declared.GivenWeekday.the-variants as given-weekday
-use Rattle.builder.specs.declared.GivenZone.the-variants as given-zone
+use Rattle.rules.specs.Placed.{fine, placed}
+use Rattle.rules.specs.Rules.{needMidnight, setDate, setTime, setDateTime, setItem, gather, relatives}
+use Rattle.builder.specs.Building.{start, onDate, onTime, onWeekday, addRelative, addRelatives, onZone, absolute, buildExtended, built, build}
+use Rattle.rules.specs.declared.DateTimeBuilder.{DateTimeBuilder}
+use Rattle.rules.specs.declared.GivenDate.the-variants as given-date
+use Rattle.rules.specs.declared.GivenTime.the-variants as given-time
+use Rattle.rules.specs.declared.GivenWeekday.the-variants as given-weekday
+use Rattle.rules.specs.declared.GivenZone.the-variants as given-zone
 use Rattle.writer.specs.Writer.{wholeMinutes}
 use Rattle.round_trip.proofs.Written.{offsetOf, bothOf, seconds-of}
 
@@ -98,9 +98,9 @@ module _ (base r : ExtendedDateTime) (tb : test base ≡ accepted tt) (tr : test
   slot x = record { item = x }
 
   pub built-alone : build [] (slot (item.DateTime (bothOf r)) ∷ []) base ≡ fine r
-  unfolding build gathered gather setItem setDateTime setDate setTime relatives buildExtended addRelatives onZone
+  unfolding build built gather setItem setDateTime setDate setTime relatives buildExtended addRelatives onZone
   built-alone = rw (whole-record true)
 
   pub built-moved : (z : ℤ) → build [] (slot (item.DateTime (bothOf r)) ∷ slot (item.Relative (Seconds z 0)) ∷ []) base ≡ placed 0 (addSeconds r z 0)
-  unfolding build gathered gather setItem setDateTime setDate setTime relatives buildExtended addRelatives addRelative onZone
+  unfolding build built gather setItem setDateTime setDate setTime relatives buildExtended addRelatives addRelative onZone
   built-moved z = rw (whole-record false, no-more (addSeconds r z 0), no-more (addSeconds r z 0))

@@ -17,10 +17,10 @@ use Rattle.items.specs.Items.{Parsed, ended, further, itemsFrom, parse-item, pa
 use Rattle.items.specs.declared.Item.{Item}
 use Rattle.items.specs.declared.Slot.{Slot}
 use Rattle.forms.proofs.ItemsForward.{parse-item-forward}
-use Rattle.builder.specs.Placed.{Placed, fine, refusal, placed, placeOf, _>>=_, _>>_}
-use Rattle.builder.specs.Rules.{empty, setItem, rulePlace, onward, gather, relatives, parts, gathered}
-use Rattle.builder.specs.Building.{buildExtended, build}
-use Rattle.builder.specs.declared.DateTimeBuilder.{DateTimeBuilder}
+use Rattle.rules.specs.Placed.{Placed, fine, refusal, placed, placeOf, _>>=_, _>>_}
+use Rattle.rules.specs.Rules.{empty, setItem, rulePlace, onward, gather, relatives}
+use Rattle.builder.specs.Building.{buildExtended, built, build}
+use Rattle.rules.specs.declared.DateTimeBuilder.{DateTimeBuilder}
 use Rattle.reading.specs.Reading.{ascii, asciiEnd, itemsOf, buildText, readLowered, readText}
 
 -- ---- the items
@@ -87,11 +87,10 @@ at-place at (accepted a) = omega arith
 at-place at (refused n) = omega arith
 
 build-place : (digits : List ℕ) (xs : List Slot) (base : ExtendedDateTime) → placeOf (build digits xs base) ≤ length xs
-unfolding build gathered
+unfolding build built
 build-place digits xs base =
-    first-place (gather digits 0 empty xs >>= (λ b. fine (parts b (relatives xs)))) (λ p. placed 0 (buildExtended (p .builder) (p .relatives) base)) (length xs)
-    (first-place (gather digits 0 empty xs) (λ b. fine (parts b (relatives xs))) (length xs) (omega (arith, rule-place digits 0 empty xs)) (λ b. omega arith))
-    (λ p. omega (arith, at-place 0 (buildExtended (p .builder) (p .relatives) base)))
+    first-place (gather digits 0 empty xs) (λ b. placed 0 (buildExtended b (relatives xs) base)) (length xs) (omega (arith, rule-place digits 0 empty xs))
+    (λ b. omega (arith, at-place 0 (buildExtended b (relatives xs) base)))
 
 -- ---- the whole
 

@@ -18,7 +18,7 @@ use Rattle.extended.proofs.Records.{facts}
 use Rattle.extended.proofs.Theorems.{Recorded, from-unix-seconds-exact, seconds-exact, seconds-refused}
 use Rattle.primitive.specs.Ordinal.{signed}
 use Rattle.primitive.specs.Text.{bytes}
-use Rattle.builder.specs.Placed.{placed}
+use Rattle.rules.specs.Placed.{placed}
 use Rattle.writer.specs.Writer.{digits, signOf, wholeMinutes, textOf, written, bytesOf, writtenAnswer, over}
 use Rattle.writer.specs.declared.Written.{Written}
 use Rattle.writer.proofs.Texts.{text-long}

@@ -4,8 +4,8 @@ use lib.IntN.{ℤ, pos}
 use Rattle.extended.specs.Outcome.{Outcome, number, valueOr}
 use Rattle.extended.specs.Extended.{blank}
 use Rattle.extended.specs.declared.ExtendedDateTime.{ExtendedDateTime}
-use Rattle.builder.specs.Placed as placed
-use Rattle.builder.specs.Placed.{Placed, numberOf, placeOf}
+use Rattle.rules.specs.Placed as placed
+use Rattle.rules.specs.Placed.{Placed, numberOf, placeOf}
 use Rattle.seqtullo.specs.declared.Answer.{Answer}
 use Rattle.seqtullo.specs.declared.Moment.{Moment}
 use Rattle.seqtullo.specs.declared.Number.{Number}

@@ -3,9 +3,9 @@ use native.Mathlib.Omega.{arith}
 use Prim.Native.Nat.{_≤_}
 use mathlib.Core.Path.{ap, sym}
 use borrow.Author.Needs.{needs}
-use Rattle.builder.specs.Placed.{placeOf}
+use Rattle.rules.specs.Placed.{placeOf}
 use Rattle.builder.specs.Building.{builtOf}
-use Rattle.builder.specs.declared.building.Built.{Built}
+use Rattle.builder.specs.declared.Built.{Built}
 use Rattle.seqtullo.specs.Hosts.{placedAnswer}
 use Rattle.seqtullo.proofs.placed_answer.Statement.{statement}
 use Rattle.seqtullo.proofs.placed_answer.Tie as tie

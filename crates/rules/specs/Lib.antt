@@ -1,0 +1,3 @@
+-- The definitions of the crate `rules`, in reading order.
+pub mod Placed
+pub mod Rules
