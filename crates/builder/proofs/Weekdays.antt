@@ -5,13 +5,13 @@ use mathlib.Core.Path.{_≡_, refl, sym}
 use mathlib.Core.Bool.{Bool, true, false, not}
 use borrow.Author.Tests.{ltb-false, lt-leb}
 use lib.IntN.{ℤ, pos, negsuc, _+ℤ_, _*ℤ_}
-use lib.Signed.{ltZ}
 use Rattle.integers.specs.Integers.{naturalOf, inI64, fitsIf, product, sum}
 use Rattle.integers.specs.declared.Checked.the-variants.{Fits, Overflow}
 use Rattle.integers.specs.declared.Natural.the-variants.{At, Below}
 use Rattle.integers.proofs.Range.{leZ-by-ltZ, fits-value}
 use Rattle.extended.specs.Outcome.{accepted, refused}
-use Rattle.builder.specs.Building.{nearer, inI32, weekdaySum}
+use Rattle.builder.specs.Building.{nearer, weekdaySum}
+use Rattle.integers.specs.Integers.{inI32}
 
 -- what a number is as a natural one
 pub natural-is : (z : ℤ) (n : ℕ) → naturalOf z ≡ At n → z ≡ pos n
@@ -31,16 +31,6 @@ nearer-zero = refl
 pub nearer-less : (n : ℕ) → (n ≡ 0 → ⊥) → pos (n - 1) ≡ nearer (pos n)
 nearer-less zero h = absurd (h refl)
 nearer-less (suc k) h = let e : suc k - 1 ≡ k = omega arith in rw e
-
--- an i32 by the code's two tests
-pub under-i32 : (z : ℤ) → ltZ z (negsuc 2147483647) ≡ true → false ≡ inI32 z
-under-i32 z e = rw (leZ-by-ltZ (negsuc 2147483647) z, e)
-
-pub beyond-i32 : (z : ℤ) → ltZ z (negsuc 2147483647) ≡ false → ltZ (pos 2147483647) z ≡ true → false ≡ inI32 z
-beyond-i32 z d e = rw (leZ-by-ltZ (negsuc 2147483647) z, leZ-by-ltZ z (pos 2147483647), d, e)
-
-pub inside-i32 : (z : ℤ) → ltZ z (negsuc 2147483647) ≡ false → ltZ (pos 2147483647) z ≡ false → true ≡ inI32 z
-inside-i32 z d e = rw (leZ-by-ltZ (negsuc 2147483647) z, leZ-by-ltZ z (pos 2147483647), d, e)
 
 -- what no i64 holds, no i32 holds
 no-i64 : (z : ℤ) → inI64 z ≡ false → inI32 z ≡ false

@@ -1,10 +1,10 @@
 -- How the items make a record of the base: document 01, 'items/weekday.rs, items/builder.rs'.
 use Prim.Native.Nat.{ℕ, zero, suc, _+_, _-_, _%_}
-use mathlib.Core.Bool.{Bool, true, false, _&&_, _||_}
+use mathlib.Core.Bool.{Bool, true, false, _&&_}
 use mathlib.Core.List.{List, [], _∷_}
 use lib.Dec.{eqb}
 use lib.IntN.{ℤ, pos, negsuc, _+ℤ_, _*ℤ_}
-use lib.Signed.{leZ}
+use Rattle.integers.specs.Integers.{inI32}
 use Rattle.extended.specs.Outcome.{Outcome, accepted, refused, check, _>>=_, _>>_}
 use Rattle.extended.specs.Extended.{date, time, accept, withDate, withTime, withOffset, addSeconds, addDays, addHours, addMinutes, addYears, addMonths, weekdayMonday0}
 use Rattle.extended.specs.declared.ExtendedDateTime.{ExtendedDateTime}
@@ -83,9 +83,6 @@ nearer (negsuc n) = negsuc n
 
 unfoldable pub weeks : ℤ → Bool → ℤ
 weeks n same = if same n (nearer n)
-
-abbrev pub inI32 : ℤ → Bool
-inI32 z = leZ (negsuc 2147483647) z && leZ z (pos 2147483647)
 
 -- the days from one day of the week to another that comes on it or behind it
 unfoldable pub ahead : ℕ → ℕ → ℕ

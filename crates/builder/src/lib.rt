@@ -27,7 +27,7 @@ ghost use lib.ListN.{take};
 ghost use Rattle.extended.specs.Extended.{madeOf, accept};
 ghost use Rattle.rules.specs.Placed.{placed};
 ghost use Rattle.rules.specs.Rules.{standingOf};
-ghost use Rattle.builder.specs.Building.{start, yearOr, onDate, onOffset, onTime, dayIndex, ahead, weeks, inI32, weekdaySum, delta, forwarded, onWeekday, addRelative, addRelatives, withZone, onZone, absolute, buildExtended, built, builtOf, daysOf};
+ghost use Rattle.builder.specs.Building.{start, yearOr, onDate, onOffset, onTime, dayIndex, ahead, weeks, weekdaySum, delta, forwarded, onWeekday, addRelative, addRelatives, withZone, onZone, absolute, buildExtended, built, builtOf, daysOf};
 
 // A record, or the number and the place of a refusal.
 pub enum Built {
@@ -254,28 +254,16 @@ fn weekday_sum(weeks: i64, ahead: u32) -> Days
     let Checked::Fits(days) = integers::checked_mul(weeks, 7) else {
         return Days::Refused(18);
     };
-    if !in_i32(days) {
+    if !integers::in_i32(days) {
         return Days::Refused(18);
     }
     let Checked::Fits(days) = integers::checked_add(days, ahead as i64) else {
         return Days::Refused(18);
     };
-    if !in_i32(days) {
+    if !integers::in_i32(days) {
         return Days::Refused(18);
     }
     Days::Add(days)
-}
-
-fn in_i32(x: i64) -> bool
-    ensures { λ r. ⌜ r ≡ inI32 x ⌝ }
-{
-    if x < -2147483648 {
-        return false;
-    }
-    if x > 2147483647 {
-        return false;
-    }
-    true
 }
 
 // No array here has more places than 64.

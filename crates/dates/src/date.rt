@@ -39,7 +39,7 @@ pub enum ReadYear {
 }
 
 // Whether that month of the year has the day.
-fn exists(year: u32, month: u8, day: u8) -> bool
+pub fn exists(year: u32, month: u8, day: u8) -> bool
     ensures { λ r. ⌜ r ≡ exists year month day ⌝ }
 {
     (1 <= day) & (day <= extended::days_in_month(year, month))

@@ -4,6 +4,7 @@ use Prim.Native.Nat.{ℕ, zero, suc, _+_, _-_, _<_, _≤_}
 use mathlib.Core.Path.{_≡_, refl, sym, ap, ap₂, _∙_}
 use mathlib.Core.Bool.{Bool, true, false}
 use native.Mathlib.Omega.{arith}
+use native.Mathlib.Nat.{zero-add}
 use lib.Dec.{ltb}
 use lib.IntN.{ℤ, pos, negsuc, negℤ, subℕ, _+ℤ_, _-ℤ_}
 use borrow.Author.Tests.{ltb-true, ltb-false, lt-ltb, le-ltb}
@@ -14,6 +15,11 @@ untrue p = let z : _≡_ {A = ℕ} 0 1 = cc in absurd (clash z)
   where
     clash : _≡_ {A = ℕ} 0 1 → ⊥
     clash z = omega arith
+
+-- -1 - n
+pub below-zero : (n : ℕ) → negsuc 0 -ℤ pos n ≡ negsuc n
+below-zero zero = refl
+below-zero (suc n) = ap (λ (m : ℕ). negsuc (suc m)) (zero-add n)
 
 pub is-pos : (a b n : ℕ) → a ≡ b + n → subℕ a b ≡ pos n
 is-pos a b n e =

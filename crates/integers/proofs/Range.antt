@@ -11,7 +11,7 @@ use mir.Syntax.{w64}
 use mir.Val.{SFits}
 use borrow.Author.Tests.{ltb-true, ltb-false, lt-ltb, le-ltb, leb-true, leb-false, le-leb, lt-leb}
 use Rattle.integers.proofs.Differences.{untrue, is-pos, is-neg, Shape, up, down, shape, diff-eq, diff-add, diff-sub, diff-pos}
-use Rattle.integers.specs.Integers.{raised, inI64, fitsIf, sum, product}
+use Rattle.integers.specs.Integers.{raised, inI64, inI32, fitsIf, sum, product}
 use Rattle.integers.specs.declared.Checked.{Checked}
 use Rattle.integers.specs.declared.Checked.the-variants.{Fits, Overflow}
 
@@ -151,3 +151,13 @@ fits-in z h = let e : inI64 z ≡ true = lt-ltb _ _ h in simp e
 
 pub fits-not : (z : ℤ) → inI64 z ≡ false → fitsIf (inI64 z) z ≡ Overflow
 fits-not z h = simp h
+
+-- an i32 by the code's two tests
+pub under-i32 : (z : ℤ) → ltZ z (negsuc 2147483647) ≡ true → false ≡ inI32 z
+under-i32 z e = rw (leZ-by-ltZ (negsuc 2147483647) z, e)
+
+pub beyond-i32 : (z : ℤ) → ltZ z (negsuc 2147483647) ≡ false → ltZ (pos 2147483647) z ≡ true → false ≡ inI32 z
+beyond-i32 z d e = rw (leZ-by-ltZ (negsuc 2147483647) z, leZ-by-ltZ z (pos 2147483647), d, e)
+
+pub inside-i32 : (z : ℤ) → ltZ z (negsuc 2147483647) ≡ false → ltZ (pos 2147483647) z ≡ false → true ≡ inI32 z
+inside-i32 z d e = rw (leZ-by-ltZ (negsuc 2147483647) z, leZ-by-ltZ z (pos 2147483647), d, e)

@@ -1,9 +1,9 @@
 -- What the functions of `integers` compute, in whole numbers without bound.
 use Prim.Native.Nat.{ℕ, suc, _+_, _-_, _^_}
-use mathlib.Core.Bool.{Bool, true, false}
+use mathlib.Core.Bool.{Bool, true, false, _&&_}
 use lib.Dec.{ltb}
 use lib.IntN.{ℤ, pos, negsuc, _+ℤ_, _*ℤ_}
-use lib.Signed.{mag}
+use lib.Signed.{mag, leZ}
 use Rattle.integers.specs.declared.Checked.{Checked}
 use Rattle.integers.specs.declared.Checked.the-variants.{Fits, Overflow}
 use Rattle.integers.specs.declared.Natural.{Natural}
@@ -33,3 +33,7 @@ product a b = fitsIf (inI64 (a *ℤ b)) (a *ℤ b)
 unfoldable pub naturalOf : ℤ → Natural
 naturalOf (pos n) = At n
 naturalOf (negsuc n) = Below
+
+-- whether z is one of the numbers from -2^31 to 2^31 - 1
+abbrev pub inI32 : ℤ → Bool
+inI32 z = leZ (negsuc 2147483647) z && leZ z (pos 2147483647)

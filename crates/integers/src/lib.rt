@@ -2,7 +2,7 @@
 // they leave the range of an i64. Every argument is taken, the very ends of each type too.
 ghost use mathlib.Core.Path.{_≡_};
 ghost use lib.IntN.{pos};
-ghost use Rattle.integers.specs.Integers.{raised, sum, product, naturalOf};
+ghost use Rattle.integers.specs.Integers.{raised, sum, product, naturalOf, inI32};
 
 // What a checked operation answers: its value, or that no i64 holds it.
 pub enum Checked {
@@ -76,4 +76,17 @@ pub fn to_natural(x: i64) -> Natural
         return Natural::Below;
     }
     Natural::At(x as u64)
+}
+
+// Whether an i32 holds x.
+pub fn in_i32(x: i64) -> bool
+    ensures { λ r. ⌜ r ≡ inI32 x ⌝ }
+{
+    if x < -2147483648 {
+        return false;
+    }
+    if x > 2147483647 {
+        return false;
+    }
+    true
 }

@@ -225,7 +225,7 @@ pub fn dec_uint_str(s: &[u8], at: usize) -> ReadPlace
 }
 
 // The end of the digits at a place.
-fn digits(s: &[u8], at: usize) -> usize
+pub fn digits(s: &[u8], at: usize) -> usize
     ensures { λ r. ⌜ r ≡ past digit (lowered (now (s .entry))) at ⌝ }
 {
     let mut i = at;

@@ -97,7 +97,7 @@ impl Offset {
 }
 
 // Whether hours and minutes are those of an offset that is read: the Rust's `try_from`.
-pub(crate) fn in_range(hours: u64, minutes: u64) -> bool
+pub fn in_range(hours: u64, minutes: u64) -> bool
     ensures { λ r. ⌜ r ≡ inRange hours minutes ⌝ }
 {
     if 24 < hours {

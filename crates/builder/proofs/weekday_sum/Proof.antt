@@ -8,7 +8,7 @@ use mir.Facts.{toZ-ofZ, toZ-pos}
 use borrow.Author.Needs.{needs}
 use Rattle.integers.specs.Integers.{product, sum}
 use Rattle.integers.specs.declared.Checked.the-variants.{Fits}
-use Rattle.builder.specs.Building.{inI32}
+use Rattle.integers.specs.Integers.{inI32}
 use Rattle.builder.proofs.Weekdays.{product-over, product-far, sum-over, sum-far, sum-near, turned-true, turned-false}
 use Rattle.builder.proofs.weekday_sum.Statement.{statement}
 use Rattle.builder.proofs.weekday_sum.Tie as tie

@@ -4,7 +4,7 @@ use Prim.Native.Nat.{ℕ, zero, suc, _+_, _-_, _*_, _/_, _<_, _≤_}
 use mathlib.Core.Path.{_≡_, refl, sym, ap, _∙_}
 use mathlib.Core.Bool.{true, false}
 use native.Mathlib.Omega.{arith}
-use native.Mathlib.Nat.{zero-add, div-lt-iff-lt-mul, le-div-iff-mul-le, div-le-self}
+use native.Mathlib.Nat.{div-lt-iff-lt-mul, le-div-iff-mul-le, div-le-self}
 use lib.IntN.{ℤ, pos, negsuc, negℤ, _-ℤ_, _*ℤ_, *ℤ-zero}
 use lib.Signed.{mag, ltZ}
 use mir.Syntax.{w64}
@@ -14,7 +14,7 @@ use borrow.Author.Needs.{needs}
 use borrow.Author.Tests.{ltb-true, ltb-false, le-ltb}
 use Rattle.integers.specs.Integers.{product}
 use Rattle.integers.specs.declared.Checked.the-variants as checked
-use Rattle.integers.proofs.Differences.{untrue}
+use Rattle.integers.proofs.Differences.{untrue, below-zero}
 use Rattle.integers.proofs.Range.{fits-in, fits-not}
 use Rattle.integers.proofs.checked_mul.Statement.{statement}
 use Rattle.integers.proofs.checked_mul.Tie as tie
@@ -31,11 +31,6 @@ mag-neg zero h = absurd (clash h)
     clash : 0 < zero → ⊥
     clash h = omega arith
 mag-neg (suc n) h = omega arith
-
--- -1 - n
-below-zero : (n : ℕ) → negsuc 0 -ℤ pos n ≡ negsuc n
-below-zero zero = refl
-below-zero (suc n) = ap (λ (m : ℕ). negsuc (suc m)) (zero-add n)
 
 -- the size of the product by where `a` lies
 module _ (k : ℕ) (some : 0 < k) (few : k < 4294967296) where

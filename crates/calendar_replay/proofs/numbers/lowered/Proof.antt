@@ -1,19 +1,15 @@
 -- `calendar_replay::numbers::lowered` is safe: -1 less a natural number below 2^63 fits. Assumes nothing.
-use Prim.Native.Nat.{ℕ, zero, suc, _-_, _<_}
+use Prim.Native.Nat.{ℕ, _-_, _<_}
 use mathlib.Core.Path.{_≡_, refl, ap}
 use native.Mathlib.Omega.{arith}
-use native.Mathlib.Nat.{zero-add}
 use lib.IntN.{pos, negsuc, _-ℤ_}
 use mir.Syntax.{w64}
 use mir.Val.{SFits}
 use mir.Facts.{toZ-pos}
 use borrow.Author.Needs.{needs}
+use Rattle.integers.proofs.Differences.{below-zero}
 use Rattle.calendar_replay.proofs.numbers.lowered.Statement.{statement}
 use Rattle.calendar_replay.proofs.numbers.lowered.Tie as tie
-
-below-zero : (n : ℕ) → negsuc 0 -ℤ pos n ≡ negsuc n
-below-zero zero = refl
-below-zero (suc n) = ap (λ (m : ℕ). negsuc (suc m)) (zero-add n)
 
 cast-result : tie.Need-cast-result
 cast-result c = search needs

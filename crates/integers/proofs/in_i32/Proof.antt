@@ -1,8 +1,8 @@
 -- `in_i32` is its definition: two tests. Assumes nothing.
 use mir.Facts.{toZ-ofZ}
-use Rattle.builder.proofs.Weekdays.{under-i32, beyond-i32, inside-i32}
-use Rattle.builder.proofs.in_i32.Statement.{statement}
-use Rattle.builder.proofs.in_i32.Tie as tie
+use Rattle.integers.proofs.Range.{under-i32, beyond-i32, inside-i32}
+use Rattle.integers.proofs.in_i32.Statement.{statement}
+use Rattle.integers.proofs.in_i32.Tie as tie
 
 returns : tie.Need-returns
 returns c = under-i32 (c .before .args .x) (rw (toZ-ofZ (c .before .fits .x)) at (c .if1 .taken))

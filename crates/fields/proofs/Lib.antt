@@ -1,0 +1,3 @@
+-- The laws of the crate `fields`.
+pub mod Numbers
+pub mod Cases

@@ -1,0 +1,3 @@
+-- The laws of the crate `packet`.
+pub mod Steps
+pub mod Loop

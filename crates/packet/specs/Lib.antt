@@ -1,0 +1,2 @@
+-- The definitions of the crate `packet`.
+pub mod Packet
