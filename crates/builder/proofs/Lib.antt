@@ -2,3 +2,4 @@ pub mod Chain
 pub mod Cases
 pub mod Weekdays
 pub mod Loops
+pub mod Places

@@ -7,20 +7,20 @@ use mathlib.Core.List.{List, [], _∷_, _++_}
 use lib.Dec.{ltb, leb, eqb}
 use lib.ListN.{length, length-append}
 use borrow.Author.Tests.{leb-true}
-use Rattle.extended.specs.Outcome.{Outcome, accepted, refused, check}
+use Rattle.extended.specs.Outcome.{check}
 use Rattle.extended.specs.Extended.{test}
 use Rattle.extended.specs.declared.ExtendedDateTime.{ExtendedDateTime}
 use Rattle.primitive.specs.Answer.{Answer, matched, none, stop, if}
-use Rattle.primitive.specs.Text.{lowered, run, past}
+use Rattle.primitive.specs.Text.{lowered, past}
+use Rattle.primitive.proofs.Forward.{run-le}
 use Rattle.primitive.specs.Primitive.{space}
 use Rattle.items.specs.Items.{Parsed, ended, further, itemsFrom, parse-item, parse-items}
 use Rattle.items.specs.declared.Item.{Item}
 use Rattle.items.specs.declared.Slot.{Slot}
 use Rattle.forms.proofs.ItemsForward.{parse-item-forward}
 use Rattle.rules.specs.Placed.{Placed, fine, refusal, placed, placeOf, _>>=_, _>>_}
-use Rattle.rules.specs.Rules.{empty, setItem, rulePlace, onward, gather, relatives}
-use Rattle.builder.specs.Building.{buildExtended, built, build}
-use Rattle.rules.specs.declared.DateTimeBuilder.{DateTimeBuilder}
+use Rattle.builder.specs.Building.{build}
+use Rattle.builder.proofs.Places.{first-step, at-place, build-place}
 use Rattle.reading.specs.Reading.{ascii, asciiEnd, itemsOf, buildText, readLowered, readText}
 
 -- ---- the items
@@ -55,57 +55,11 @@ pub items-end : (text : List ℕ) → Ends text 64 (parse-items text)
 unfolding parse-items
 items-end text = ends 64 [] text 0 (omega arith)
 
--- ---- the rules
-
-place-low : (n i : ℕ) → rulePlace n i ≤ i
-unfolding rulePlace
-place-low n i = go (eqb n 9)
-  where
-    go : (t : Bool) → if t 0 i ≤ i
-    go true = omega arith
-    go false = omega arith
-
-rule-place : (digits : List ℕ) (i : ℕ) (b : DateTimeBuilder) (xs : List Slot) → placeOf (gather digits i b xs) ≤ i + length xs
-unfolding gather
-rule-place digits i b [] = omega arith
-rule-place digits i b (x ∷ xs) = go (λ next. rule-place digits (suc i) next xs) (setItem digits b (x .item))
-  where
-    go : ((next : DateTimeBuilder) → placeOf (gather digits (suc i) next xs) ≤ suc i + length xs) → (o : Outcome DateTimeBuilder) → placeOf (onward i o (λ next. gather digits (suc i) next xs)) ≤ i + suc (length xs)
-    go f (accepted next) = omega (arith, f next)
-    go f (refused n) = omega (arith, place-low n i)
-
-first-place : {A B : Type 0} (p : Placed A) (f : A → Placed B) (k : ℕ) → placeOf p ≤ k → ((a : A) → placeOf (f a) ≤ k) → placeOf (p >>= f) ≤ k
-first-place (fine a) f k h g = g a
-first-place (refusal n at) f k h g = h
-
-first-step : {A B : Type 0} (p : Placed A) (q : Placed B) (k : ℕ) → placeOf p ≤ k → placeOf q ≤ k → placeOf (p >> q) ≤ k
-first-step (fine a) q k h g = g
-first-step (refusal n at) q k h g = h
-
-at-place : {A : Type 0} (at : ℕ) (o : Outcome A) → placeOf (placed at o) ≤ at
-at-place at (accepted a) = omega arith
-at-place at (refused n) = omega arith
-
-build-place : (digits : List ℕ) (xs : List Slot) (base : ExtendedDateTime) → placeOf (build digits xs base) ≤ length xs
-unfolding build built
-build-place digits xs base =
-    first-place (gather digits 0 empty xs) (λ b. placed 0 (buildExtended b (relatives xs) base)) (length xs) (omega (arith, rule-place digits 0 empty xs))
-    (λ b. omega (arith, at-place 0 (buildExtended b (relatives xs) base)))
-
 -- ---- the whole
-
-run-low : (p : ℕ → Bool) (l : List ℕ) → run p l ≤ length l
-unfolding run
-run-low p [] = omega arith
-run-low p (b ∷ bs) = go (run-low p bs) (p b)
-  where
-    go : run p bs ≤ length bs → (t : Bool) → if t (suc (run p bs)) 0 ≤ suc (length bs)
-    go h true = omega arith
-    go h false = omega arith
 
 ascii-low : (l : List ℕ) → asciiEnd l ≤ length l
 unfolding asciiEnd past
-ascii-low l = omega (arith, run-low ascii l)
+ascii-low l = omega (arith, run-le ascii l)
 
 text-place : (text : List ℕ) (base : ExtendedDateTime) → length text ≤ 4096 → placeOf (buildText text base) ≤ 4096
 unfolding buildText itemsOf

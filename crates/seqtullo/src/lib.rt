@@ -9,6 +9,7 @@ ghost use Prim.Native.Nat.{_≤_};
 ghost use Rattle.rules.specs.Placed.{placeOf};
 ghost use Rattle.builder.specs.Building.{builtOf};
 ghost use Rattle.reading.specs.Reading.{readText};
+ghost use Rattle.packet.specs.Packet.{readPacket};
 ghost use Rattle.seqtullo.specs.Hosts.{recordAnswer, momentAnswer, numberAnswer, placedAnswer};
 use builder::Built;
 use extended::DateParts;
@@ -213,6 +214,14 @@ pub extern "C" fn seqtullo_read_text(text: &[u8], base: Record) -> Answer
     ensures { λ r. ⌜ r ≡ placedAnswer (readText (now (text .entry)) base) ⌝ }
 {
     placed_answer(reading::read_text(text, base))
+}
+
+// Reads a packet under a base.
+#[no_mangle]
+pub extern "C" fn seqtullo_read_packet(packet: &[u8], base: Record) -> Answer
+    ensures { λ r. ⌜ r ≡ placedAnswer (readPacket (now (packet .entry)) base) ⌝ }
+{
+    placed_answer(packet::read_packet(packet, base))
 }
 
 // Writes the record's text to the front of `out`; a refusal writes nothing.
