@@ -226,26 +226,34 @@ module _ (s : List ℕ) (at : ℕ) where
       let y = past-here blank s (at + 1) k (lower (getD s (at + 1) 0)) refl (blank-above s (at + 1) k g) in
       skip-above s (at + 1) at (skip-start s at (at + 1) (sym (z ∙ y))) k g
 
--- a hyphen with a digit behind it
-module _ (s : List ℕ) (at : ℕ) (h : at < length s) (e : getD s at 0 ≡ 45) (g : at + 1 < length s) (t : Bool) (f : t ≡ digit (getD s (at + 1) 0)) (k : t ≡ true) where
-  hyphen-byte : 45 ≡ lower (getD s at 0)
-  unfolding lower
-  hyphen-byte = rw e
+-- a sign with a digit behind it
+module _ (s : List ℕ) (at : ℕ) (h : at < length s) (g : at + 1 < length s) (t : Bool) (f : t ≡ digit (getD s (at + 1) 0)) (k : t ≡ true) where
+  sign-kept : (c : ℕ) (v : Bool) → c ≡ lower (getD s at 0) → comment (lowered s) at ≡ none → sign (lowered s) at ≡ matched v (at + 1) → blank c ≡ false → at ≡ space (lowered s) at
+  unfolding ignored ignored-hyphen-or-plus multispace0
+  sign-kept c v e p q b =
+      let z = past-here blank s (at + 1) g (lower (getD s (at + 1) 0)) refl (blank-lower (getD s (at + 1) 0) ∙ digit-no-blank (getD s (at + 1) 0) (sym f ∙ k)) in
+      let i : ignored (lowered s) at ≡ none = rw (p, q, z) (sym (digit-there s (at + 1) t f k)) in
+      skip-stop s at at (skip-start s at at (sym (past-here blank s at h c e b))) h place.NoMatch (sym i) refl
 
-  hyphen-kept : ignored (lowered s) at ≡ none
-  unfolding ignored comment ignored-hyphen-or-plus sign tag starts multispace0
-  hyphen-kept =
-      rw
-      (rest-cons s at h 45 hyphen-byte, past-here blank s (at + 1) g (lower (getD s (at + 1) 0)) refl (blank-lower (getD s (at + 1) 0) ∙ digit-no-blank (getD s (at + 1) 0) (sym f ∙ k)))
-      (sym (digit-there s (at + 1) t f k))
+  pub hyphen-kept : getD s at 0 ≡ 45 → at ≡ space (lowered s) at
+  unfolding lower blank comment sign tag starts
+  hyphen-kept e =
+      let l : 45 ≡ lower (getD s at 0) = rw e in
+      sign-kept 45 true l (rw (rest-cons s at h 45 l)) (rw (rest-cons s at h 45 l)) refl
 
-  no-blank : at ≡ past blank (lowered s) at
-  unfolding blank
-  no-blank = sym (past-here blank s at h 45 hyphen-byte refl)
+  pub plus-kept : getD s at 0 ≡ 43 → at ≡ space (lowered s) at
+  unfolding lower blank comment sign tag starts
+  plus-kept e =
+      let l : 43 ≡ lower (getD s at 0) = rw e in
+      sign-kept 43 false l (rw (rest-cons s at h 43 l)) (rw (rest-cons s at h 43 l)) refl
 
-  pub hyphen-at-once : matched tt (at + 1) ≡ tag (45 ∷ []) (lowered s) (space (lowered s) at)
-  unfolding tag starts
-  hyphen-at-once = rw (← skip-stop s at at (skip-start s at at no-blank) h place.NoMatch (sym hyphen-kept) refl, rest-cons s at h 45 hyphen-byte)
+  pub hyphen-at-once : getD s at 0 ≡ 45 → matched tt (at + 1) ≡ tag (45 ∷ []) (lowered s) (space (lowered s) at)
+  unfolding lower tag starts
+  hyphen-at-once e = rw (← hyphen-kept e, rest-cons s at h 45 (rw e))
+
+-- where it is not there, nothing is said
+pub unsaid : {A : Type 0} → _≡_ {A = Bool} false true → A
+unsaid e = let z : _≡_ {A = ℕ} 0 1 = cc in absurd (clash z)
 
 pub skip-less : (s : List ℕ) (i n m : ℕ) (r : ReadPlace) → i < length s → placeAnswer r ≡ ignored (lowered s) i → r ≡ place.Match n → m ≡ past blank (lowered s) n → length s - m < length s - i
 skip-less s i n m r h e k g =

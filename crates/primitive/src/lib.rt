@@ -9,10 +9,11 @@ pub mod epoch;
 pub mod ordinal;
 
 ghost use mathlib.Core.Path.{_≡_};
+ghost use mathlib.Core.Bool.{true};
 ghost use Prim.Native.Nat.{_-_, _<_, _≤_, _^_, min};
 ghost use lib.ListN.{length};
 ghost use lib.Seq.{slice};
-ghost use lib.Dec.{ltb};
+ghost use lib.Dec.{ltb, eqb};
 ghost use Rattle.primitive.specs.Answer.{if, matched, none};
 ghost use Rattle.primitive.specs.Text.{lower, lowered, blank, digit, letter, past, byte, tag};
 ghost use Rattle.primitive.specs.Primitive.{multispace1, comment, sign, ignored-hyphen-or-plus, ignored, space, spaced, parse-uint, dec-uint-str, dec-uint, colon, plus-or-minus, alpha1, words, index, placeAnswer, sliceAnswer, signAnswer, u8Answer, u32Answer, u64Answer};
@@ -121,7 +122,30 @@ pub fn space(s: &[u8], at: usize) -> usize
             }
         }
     }
+    if signed_digit(s, at) {
+        return at;
+    }
     skip_space(s, at)
+}
+
+// Whether a sign stands there with a digit behind it, which is not ignored.
+fn signed_digit(s: &[u8], at: usize) -> bool
+    ensures { λ r. ⌜ (r ≡ true → at ≡ space (lowered (now (s .entry))) at) ⌝ }
+{
+    if s.len() <= at {
+        return false;
+    }
+    let next = at + 1;
+    if s.len() <= next {
+        return false;
+    }
+    if s[at] == 43 {
+        return is_digit(s[next]);
+    }
+    if s[at] == 45 {
+        return is_digit(s[next]);
+    }
+    false
 }
 
 // The same where there may be space. No byte above 45, the hyphen, begins any.
@@ -334,11 +358,21 @@ pub fn byte(s: &[u8], at: usize, b: u8) -> ReadPlace
     ensures { λ r. ⌜ placeAnswer r ≡ byte b (lowered (now (s .entry))) at ⌝ }
 {
     if at < s.len() {
-        if to_lower(s[at]) == b {
+        if lowers_to(s[at], b) {
             return ReadPlace::Match(at + 1);
         }
     }
     ReadPlace::NoMatch
+}
+
+// Whether a byte is b in lower case. One below 65, the letter A, is its own.
+fn lowers_to(c: u8, b: u8) -> bool
+    ensures { λ r. ⌜ r ≡ eqb (lower c) b ⌝ }
+{
+    if b < 65 {
+        return c == b;
+    }
+    to_lower(c) == b
 }
 
 // One byte behind space.

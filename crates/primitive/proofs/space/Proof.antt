@@ -22,11 +22,17 @@ shared-slice-read-if5 c = search needs
 returns-3 : tie.Need-returns-3
 returns-3 c = search spaces
 
+signed-digit-requires : tie.Need-signed-digit-requires
+signed-digit-requires c κs = search needs
+
+returns-4 : tie.Need-returns-4
+returns-4 c = c .before .signed-digit .ensures (c .if6 .taken)
+
 skip-space-requires : tie.Need-skip-space-requires
 skip-space-requires c κs = search needs
 
-returns-4 : tie.Need-returns-4
-returns-4 c = search spaces
+returns-5 : tie.Need-returns-5
+returns-5 c = search spaces
 
 pub space-spec : {M : Type 1} → statement M
 space-spec =
@@ -38,5 +44,7 @@ space-spec =
     add-next
     shared-slice-read-if5
     returns-3
+    signed-digit-requires
+    returns-4
     skip-space-requires
-    returns-4)
+    returns-5)
