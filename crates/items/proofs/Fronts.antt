@@ -9,6 +9,7 @@ use Rattle.primitive.specs.Answer.{Answer, none}
 use Rattle.primitive.specs.Text.{lowered, digit, letter}
 use Rattle.primitive.specs.Primitive.{space}
 use Rattle.primitive.proofs.Fronts.{str-else, number-else, word-else, below-digits, above-digits, beyond-text, digit-in-front, space-again}
+use Rattle.relative.proofs.Spaced.{parse-behind}
 use Rattle.dates.specs.Year.{year-str}
 use Rattle.dates.specs.Date.{iso1, iso2, dotted, us, word-dot, literal-month, literal1, literal2, literal3, literal, parse-non-iso}
 use Rattle.times.specs.Time.{below, hour24, hour12, hour-offset, clock, iso, am-pm-time, parse}
@@ -47,10 +48,14 @@ module _ (s : List ℕ) (at start : ℕ) (g : start ≡ space (lowered s) at) (a
   pub above-9 : 57 < getD s start 0 → a ≡ other-item (lowered s) at → a ≡ parse-item (lowered s) at
   above-9 h e = other-alone s at (rw g at (above-digits s start h)) a e
 
-  pub below-0 : getD s start 0 < 48 → a ≡ relative-item (lowered s) at → a ≡ parse-item (lowered s) at
-  below-0 h e = let z = below-digits s start h in relative-alone s at (rw g at (z .0)) (rw g at (z .1)) a e
+  behind-space : a ≡ relative-item (lowered s) start → a ≡ relative-item (lowered s) at
+  unfolding relative-item
+  behind-space e = rw (g, parse-behind (lowered s) at) at e
 
-  pub no-byte : length s ≤ start → a ≡ relative-item (lowered s) at → a ≡ parse-item (lowered s) at
-  no-byte h e = let z = beyond-text s start h in relative-alone s at (rw g at (z .0)) (rw g at (z .1)) a e
+  pub below-0 : getD s start 0 < 48 → a ≡ relative-item (lowered s) start → a ≡ parse-item (lowered s) at
+  below-0 h e = let z = below-digits s start h in relative-alone s at (rw g at (z .0)) (rw g at (z .1)) a (behind-space e)
+
+  pub no-byte : length s ≤ start → a ≡ relative-item (lowered s) start → a ≡ parse-item (lowered s) at
+  no-byte h e = let z = beyond-text s start h in relative-alone s at (rw g at (z .0)) (rw g at (z .1)) a (behind-space e)
 
 pub ruleset fronts = (above-9, below-0, no-byte, items)

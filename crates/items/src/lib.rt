@@ -139,10 +139,10 @@ pub(crate) fn parse_item(s: &[u8], at: usize) -> ReadItem
 {
     let start = primitive::space(s, at);
     if s.len() <= start {
-        return relative_item(s, at);
+        return relative_item(s, start);
     }
     if s[start] < 48 {
-        return relative_item(s, at);
+        return relative_item(s, start);
     }
     if 57 < s[start] {
         return other_item(s, at);

@@ -1,7 +1,8 @@
 -- The laws of lower case: a byte lowered as it is read is the byte of the lowered text. Assumes nothing.
 use Prim.Native.Nat.{ℕ, zero, suc, _+_, _<_, _≤_}
 use native.Mathlib.Numerals.{add-one}
-use mathlib.Core.Path.{_≡_, refl, ap}
+use borrow.Author.Needs.{needs}
+use mathlib.Core.Path.{_≡_, refl, ap, _∙_}
 use mathlib.Core.List.{List, [], _∷_}
 use mathlib.Core.Bool.{Bool, true, false, _&&_, _||_}
 use lib.Dec.{leb, eqb}
@@ -10,7 +11,7 @@ use Rattle.primitive.specs.Answer.{if}
 use native.Mathlib.Omega.{arith}
 use lib.ListN.{length, getD, take, drop, drop-of-length-le, length-take}
 use lib.Seq.{slice, drop-cons, getD-take}
-use Rattle.primitive.specs.Text.{lower, lowered, blank, digit}
+use Rattle.primitive.specs.Text.{lower, lowered, blank, digit, letter}
 
 pub length-lowered : (s : List ℕ) → length (lowered s) ≡ length s
 unfolding lowered
@@ -64,6 +65,26 @@ digit-lower = unlowered digit (λ b e g. let h = leb-true 65 b e in rw (lt-leb (
 
 pub clash : _≡_ {A = ℕ} 0 1 → ⊥
 clash z = omega arith
+
+-- a letter, small or capital
+module _ (b : ℕ) (t : Bool) where
+  pub small-letter : 97 ≤ b → t ≡ leb b 122 → t ≡ letter (lower b)
+  unfolding letter lower
+  small-letter h e = rw (lt-leb b 90 (omega arith), le-leb 65 b (omega arith), le-leb 97 b h) e
+
+  pub capital : b < 97 → 65 ≤ b → t ≡ leb b 90 → t ≡ letter (lower b)
+  unfolding letter lower
+  capital g h e = e ∙ go (leb b 90) refl
+    where
+      go : (u : Bool) → leb b 90 ≡ u → u ≡ (leb 97 (if (leb 65 b && u) (b + 32) b) && leb (if (leb 65 b && u) (b + 32) b) 122)
+      go true f = let k = leb-true b 90 f in rw (le-leb 65 b h, le-leb 97 (b + 32) (omega arith), le-leb (b + 32) 122 (omega arith))
+      go false f = rw (le-leb 65 b h, lt-leb 97 b g)
+
+pub no-letter : (b : ℕ) → b < 65 → false ≡ letter (lower b)
+unfolding letter lower
+no-letter b h = rw (lt-leb 65 b h, lt-leb 97 b (omega arith))
+
+pub ruleset letters-tests = (small-letter, capital, no-letter, needs)
 
 -- a digit is its own lower case
 pub digit-same : (b : ℕ) → digit b ≡ true → b ≡ lower b

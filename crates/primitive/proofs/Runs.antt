@@ -10,7 +10,7 @@ use mathlib.Core.Bool.{Bool, true, false}
 use lib.ListN.{length, getD}
 use lib.Seq.{slice}
 use Rattle.primitive.specs.Answer.{matched, none}
-use Rattle.primitive.specs.Text.{lower, lowered, blank, digit, run, past, some}
+use Rattle.primitive.specs.Text.{lower, lowered, blank, digit, letter, run, past, some}
 use Rattle.primitive.proofs.Lowered.{rest-cons, rest-none, digit-lower, blank-lower}
 
 module _ (p : ℕ → Bool) (s : List ℕ) (i : ℕ) where
@@ -62,6 +62,14 @@ module _ (s : List ℕ) (i at : ℕ) where
     pub blanks-next : t ≡ true → past blank (lowered s) (i + 1) ≡ past blank (lowered s) at
     blanks-next = past-next-raw blank blank-lower s i at inv h t f
 
+-- The same for letters, where the byte is asked for its lower case.
+module _ (s : List ℕ) (i at : ℕ) (inv : past letter (lowered s) i ≡ past letter (lowered s) at) (h : i < length s) (t : Bool) (f : t ≡ letter (lower (getD s i 0))) where
+  pub letters-found : t ≡ false → i ≡ past letter (lowered s) at
+  letters-found = past-found letter s i at inv h (lower (getD s i 0)) refl t f
+
+  pub letters-next : t ≡ true → past letter (lowered s) (i + 1) ≡ past letter (lowered s) at
+  letters-next = past-next letter s i at inv h (lower (getD s i 0)) refl t f
+
 -- A run of one byte or more.
 module _ (p : ℕ → Bool) (text : List ℕ) (at end : ℕ) (e : end ≡ past p text at) where
   pub some-match : at < end → matched (slice at end text) end ≡ some p text at
@@ -72,4 +80,4 @@ module _ (p : ℕ → Bool) (text : List ℕ) (at end : ℕ) (e : end ≡ past p
   unfolding some
   some-none h = rw (← e, le-ltb at end h)
 
-pub ruleset runs = (past-done, past-found, past-next, digits-found, digits-next, blanks-found, blanks-next, some-match, some-none, needs)
+pub ruleset runs = (past-done, past-found, past-next, digits-found, digits-next, blanks-found, blanks-next, letters-found, letters-next, some-match, some-none, needs)

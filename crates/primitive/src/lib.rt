@@ -70,10 +70,17 @@ pub(crate) fn is_digit(b: u8) -> bool
     48 <= b && b <= 57
 }
 
-pub(crate) fn is_letter(b: u8) -> bool
-    ensures { λ r. ⌜ r ≡ letter b ⌝ }
+// Whether a byte is a letter, small or capital.
+pub(crate) fn is_alpha(b: u8) -> bool
+    ensures { λ r. ⌜ r ≡ letter (lower b) ⌝ }
 {
-    97 <= b && b <= 122
+    if 97 <= b {
+        return b <= 122;
+    }
+    if 65 <= b {
+        return b <= 90;
+    }
+    false
 }
 
 // The end of the blanks at a place.
@@ -470,7 +477,7 @@ fn letters(s: &[u8], at: usize) -> usize
 {
     let mut i = at;
     while i < s.len() {
-        if is_letter(to_lower(s[i])) {
+        if is_alpha(s[i]) {
             i += 1;
         } else {
             return i;
