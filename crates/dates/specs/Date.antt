@@ -3,9 +3,9 @@ use Prim.Native.Nat.{ℕ, _-_}
 use Prim.Native.String.{String}
 use mathlib.Core.List.{List, [], _∷_, _++_}
 use mathlib.Core.Bool.{Bool, _&&_}
-use lib.ListN.{length, take, drop}
+use lib.ListN.{length, getD, take, drop}
 use lib.Seq.{slice}
-use lib.Dec.{leb}
+use lib.Dec.{ltb, leb}
 use Rattle.extended.specs.Calendar.{monthDays}
 use Rattle.primitive.specs.Answer.{Answer, Reader, matched, none, if, andThen, orElse, _>>=_, _>>_, _<|>_, pure, value, optional, verify}
 use Rattle.primitive.specs.Text.{char}
@@ -198,6 +198,10 @@ dateAnswer got.NoMatch = none
 abbrev pub yearAnswer : List ℕ → ℕ → ReadYear → Answer Written
 yearAnswer text at (year.From from to next) = matched (written (slice from to text)) next
 yearAnswer text at year.Unwritten = matched unwritten at
+
+-- the month at an index of a row of months
+abbrev pub month-in : ℕ → List ℕ → ℕ → Answer ℕ
+month-in k ms at = if (ltb k (length ms)) (matched (getD ms k 0) at) none
 
 -- the date of an answered year
 unfoldable pub writtenAt : Answer Written → ℕ → ℕ → List ℕ → Answer Date

@@ -11,8 +11,8 @@ ghost use lib.Seq.{slice};
 ghost use mathlib.Core.List.{[]};
 ghost use Rattle.primitive.specs.Text.{lowered};
 ghost use Rattle.primitive.specs.Answer.{matched, orElse};
-ghost use Rattle.primitive.specs.Primitive.{spaced, parse-uint, placeAnswer, sliceAnswer, u8Answer};
-ghost use Rattle.dates.specs.Date.{exists, with-year, without-year, unwritten, end-of-text, blank-or-end, ended, dated-behind, nothing, hyphen, comma, dotted, iso1, iso2, slash-part, us-rest, us, word-dot, literal-month, literal1, literal2, literal3, literal, parse-non-iso, dateAnswer, yearAnswer, writtenAt, usAt};
+ghost use Rattle.primitive.specs.Primitive.{spaced, parse-uint, named, words, index, placeAnswer, sliceAnswer, u8Answer};
+ghost use Rattle.dates.specs.Date.{exists, with-year, without-year, unwritten, end-of-text, blank-or-end, ended, dated-behind, nothing, hyphen, comma, dotted, iso1, iso2, slash-part, us-rest, us, word-dot, months, month-in, literal-month, literal1, literal2, literal3, literal, parse-non-iso, dateAnswer, yearAnswer, writtenAt, usAt};
 
 // The year of a date item, which may be left out.
 pub enum DateYear {
@@ -219,13 +219,13 @@ pub fn iso1(s: &[u8], at: usize) -> ReadDate
     let ReadDigits::Match(from, to) = crate::year::year_str(s, at) else {
         return ReadDate::NoMatch;
     };
-    let ReadPlace::Match(at) = primitive::spaced_byte(s, to, 45) else {
+    let ReadPlace::Match(at) = primitive::spaced_hyphen(s, to) else {
         return ReadDate::NoMatch;
     };
     let ReadU8::Match(month, at) = primitive::spaced_u8(s, at) else {
         return ReadDate::NoMatch;
     };
-    let ReadPlace::Match(at) = primitive::spaced_byte(s, at, 45) else {
+    let ReadPlace::Match(at) = primitive::spaced_hyphen(s, at) else {
         return ReadDate::NoMatch;
     };
     let ReadU8::Match(day, at) = primitive::spaced_u8(s, at) else {
@@ -378,45 +378,6 @@ fn spaced_month(s: &[u8], at: usize) -> ReadU8
     literal_month(s, primitive::space(s, at))
 }
 
-const MONTHS: [u8; 36] = [
-    1,
-    1,
-    1,
-    2,
-    2,
-    2,
-    3,
-    3,
-    3,
-    4,
-    4,
-    4,
-    5,
-    5,
-    6,
-    6,
-    6,
-    7,
-    7,
-    7,
-    8,
-    8,
-    8,
-    9,
-    9,
-    9,
-    9,
-    10,
-    10,
-    10,
-    11,
-    11,
-    11,
-    12,
-    12,
-    12,
-];
-
 // The name of a month, behind space: `sept` is one, `sept.` is none.
 pub(crate) fn literal_month(s: &[u8], at: usize) -> ReadU8
     ensures { λ r. ⌜ u8Answer r ≡ literal-month (lowered (now (s .entry))) at ⌝ }
@@ -425,14 +386,78 @@ pub(crate) fn literal_month(s: &[u8], at: usize) -> ReadU8
     let ReadPlace::Match(end) = word_dot(s, start) else {
         return ReadU8::NoMatch;
     };
-    let k = primitive::find_word(
-        s,
-        start,
-        end,
-        b"january jan jan. february feb feb. march mar mar. april apr apr. may may. june jun jun. july jul jul. august aug aug. september sep sep. sept october oct oct. november nov nov. december dec dec. ",
-    );
-    if k < 36 {
-        ReadU8::Match(MONTHS[k], end)
+    month_named(s, start, end)
+}
+
+// The month that the word from `start` up to `end` names. Its first letter tells most names apart.
+fn month_named(s: &[u8], start: usize, end: usize) -> ReadU8
+    ensures { λ r. ⌜ u8Answer r ≡ named months (slice start end (lowered (now (s .entry)))) (lowered (now (s .entry))) end ⌝ }
+{
+    if end <= start {
+        return ReadU8::NoMatch;
+    }
+    if s.len() <= start {
+        return ReadU8::NoMatch;
+    }
+    let b = primitive::to_lower(s[start]);
+    if b == 106 {
+        return month_in(
+            s,
+            start,
+            end,
+            b"january jan jan. june jun jun. july jul jul. ",
+            b"\x01\x01\x01\x06\x06\x06\x07\x07\x07",
+        );
+    }
+    if b == 109 {
+        return month_in(
+            s,
+            start,
+            end,
+            b"march mar mar. may may. ",
+            b"\x03\x03\x03\x05\x05",
+        );
+    }
+    if b == 97 {
+        return month_in(
+            s,
+            start,
+            end,
+            b"april apr apr. august aug aug. ",
+            b"\x04\x04\x04\x08\x08\x08",
+        );
+    }
+    if b == 102 {
+        return month_in(s, start, end, b"february feb feb. ", b"\x02\x02\x02");
+    }
+    if b == 115 {
+        return month_in(
+            s,
+            start,
+            end,
+            b"september sep sep. sept ",
+            b"\x09\x09\x09\x09",
+        );
+    }
+    if b == 111 {
+        return month_in(s, start, end, b"october oct oct. ", b"\x0a\x0a\x0a");
+    }
+    if b == 110 {
+        return month_in(s, start, end, b"november nov nov. ", b"\x0b\x0b\x0b");
+    }
+    if b == 100 {
+        return month_in(s, start, end, b"december dec dec. ", b"\x0c\x0c\x0c");
+    }
+    ReadU8::NoMatch
+}
+
+// The month of a word that a table has: the months stand in the order of the words.
+fn month_in(s: &[u8], start: usize, end: usize, table: &[u8], months: &[u8]) -> ReadU8
+    ensures { λ r. ⌜ u8Answer r ≡ month-in (index (slice start end (lowered (now (s .entry)))) (words (now (table .entry)))) (now (months .entry)) end ⌝ }
+{
+    let k = primitive::find_word(s, start, end, table);
+    if k < months.len() {
+        ReadU8::Match(months[k], end)
     } else {
         ReadU8::NoMatch
     }

@@ -62,8 +62,26 @@ pub struct Slot {
     pub item: Item,
 }
 
-// The item at a place.
+// The item at a place. The first byte behind the space says what it can be: below 48, the digit 0, it begins no date and no time, and above
+// 57, the digit 9, no ISO date.
 pub fn parse_item(s: &[u8], at: usize) -> ReadItem
+    ensures { λ r. ⌜ itemAnswer r ≡ parse-item (lowered (now (s .entry))) at ⌝ }
+{
+    let start = primitive::space(s, at);
+    if s.len() <= start {
+        return relative_item(s, start);
+    }
+    if s[start] < 48 {
+        return relative_item(s, start);
+    }
+    if 57 < s[start] {
+        return other_item(s, at);
+    }
+    number_item(s, at)
+}
+
+// The same where it may begin with a number.
+fn number_item(s: &[u8], at: usize) -> ReadItem
     ensures { λ r. ⌜ itemAnswer r ≡ parse-item (lowered (now (s .entry))) at ⌝ }
 {
     match iso_item(s, at) {

@@ -16,7 +16,7 @@ use Rattle.primitive.specs.Primitive.{dec-uint-str, sliceAnswer}
 use Rattle.primitive.specs.Epoch.{padded, nanoseconds}
 use Rattle.primitive.specs.declared.ReadPlace.{ReadPlace}
 use Rattle.primitive.specs.declared.ReadPlace.the-variants as place
-use Rattle.primitive.proofs.Lowered.{getD-lowered, length-lowered, slice-first, slice-over}
+use Rattle.primitive.proofs.Lowered.{clash, digit-lower, digit-same, getD-lowered, length-lowered, slice-first, slice-over}
 use Rattle.primitive.proofs.Forward.{run-le}
 use Rattle.primitive.proofs.Values.{grown, grown-zero, grown-none, grown-cons}
 use Rattle.primitive.proofs.Chain.{chain}
@@ -62,13 +62,18 @@ module _ (s : List ℕ) (from to i : ℕ) (e : to ≡ past digit (lowered s) fro
       let y : from + (i - from) ≡ i = omega arith in
       rw (getD-drop, y, getD-lowered) at z
 
-  pub digit-limit : (b d : ℕ) → b ≡ lower (getD s i 0) → d ≡ b - 48 → d ≤ 9
+  -- so that the byte itself can be taken
+  pub digit-itself : getD s i 0 ≡ lower (getD s i 0)
+  digit-itself = digit-same (getD s i 0) (sym (digit-lower (getD s i 0)) ∙ is-digit)
+
+  pub digit-range : (48 ≤ getD s i 0) × (getD s i 0 - 48 ≤ 9)
   unfolding digit
-  digit-limit b d f g = let z : b ≤ 57 = go (leb 48 b) (rw (← f) at is-digit) in omega arith
+  digit-range = go (leb 48 (getD s i 0)) refl (leb (getD s i 0) 57) refl (sym (digit-lower (getD s i 0)) ∙ is-digit)
     where
-      go : (t : Bool) → t && leb b 57 ≡ true → b ≤ 57
-      go true e = leb-true b 57 e
-      go false e = let z : _≡_ {A = ℕ} 0 1 = cc in omega arith
+      go : (t : Bool) → leb 48 (getD s i 0) ≡ t → (u : Bool) → leb (getD s i 0) 57 ≡ u → (t && u) ≡ true → (48 ≤ getD s i 0) × (getD s i 0 - 48 ≤ 9)
+      go true e true f g = let z = leb-true (getD s i 0) 57 f in (leb-true 48 (getD s i 0) e, omega arith)
+      go true e false f g = let z : _≡_ {A = ℕ} 0 1 = cc in absurd (clash z)
+      go false e u f g = let z : _≡_ {A = ℕ} 0 1 = cc in absurd (clash z)
 
 -- the value of acc with `left` digits behind it: those from i up to `to`, and zeros
 pub nanoFrom : ℕ → List ℕ → ℕ → ℕ → ℕ → ℕ
@@ -113,4 +118,4 @@ module _ (acc left : ℕ) (m : left ≤ 9) (b : acc < 10 ^ (9 - left)) (h : 0 < 
   pub next-small-zero : acc * 10 < 10 ^ (9 - (left - 1))
   next-small-zero = let z = next-small 0 (omega arith) in omega arith
 
-pub ruleset fractions = (str-end, digit-within, digit-limit, nano-start, nano-done, nano-zero, nano-digit, next-small, chain)
+pub ruleset fractions = (str-end, digit-within, nano-start, nano-done, nano-zero, nano-digit, next-small, chain)

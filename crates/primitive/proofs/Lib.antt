@@ -7,7 +7,9 @@ pub mod Chain
 pub mod Numbers
 pub mod Comments
 pub mod Forward
+pub mod Scans
 pub mod Spaces
+pub mod Fronts
 pub mod Tables
 pub mod Fractions
 pub mod Limits

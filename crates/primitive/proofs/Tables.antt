@@ -182,6 +182,17 @@ module _ {A : Type 0} (d : A) (w text : List ℕ) (at : ℕ) where
     unfolding nth
     named-out h = rw (le-ltb n (length es) h) at at-index
 
+values-length : {A : Type 0} (es : List (String × A)) → length (values es) ≡ length es
+unfolding values
+values-length [] = refl
+values-length (e ∷ es) = ap suc (values-length es)
+
+-- The same in one: for a table with the words and the values of es.
+pub named-at : {A : Type 0} (d : A) (w text : List ℕ) (at : ℕ) (es : List (String × A)) (ws : List (List ℕ)) (vs : List A) → ws ≡ keys es → vs ≡ values es →
+    if (ltb (index w ws) (length vs)) (matched (getD vs (index w ws) d) at) none ≡ named es w text at
+unfolding nth
+named-at d w text at es ws vs g h = rw (g, h, values-length es) (nth-index d w text at es)
+
 -- A word that was read, and its value in a table: `find_word` gave n for it.
 module _ {A : Type 0} (es : List (String × A)) (ws : List (List ℕ)) (g : ws ≡ keys es) (d : A) (text : List ℕ) (start end : ℕ) (r : ReadPlace) (p : Answer (List ℕ))
     (e : sliceAnswer text start r ≡ p) (k : r ≡ place.Match end) (n : ℕ) (f : n ≡ index (slice start end text) ws) where

@@ -74,7 +74,7 @@ module _ (s : List ℕ) (acc i to : ℕ) (w : List ℕ) (inv : grownFrom acc s i
     unfolding grownFrom
     parse-next = rw (f, ← grown-cons acc b (slice (i + 1) to (lowered s)), ← slice-first s i to h k b e) inv
 
-    over : (max n : ℕ) → max < acc * 10 + d → none ≡ parse-uint max w (lowered s) n
+    pub over : (max n : ℕ) → max < acc * 10 + d → none ≡ parse-uint max w (lowered s) n
     unfolding parse-uint grownFrom
     over max n o =
         let g : acc * 10 + d ≤ decimal w = subst (λ (x : ℕ). acc * 10 + d ≤ x) parse-next (grown-ge (acc * 10 + d) (slice (i + 1) to (lowered s))) in

@@ -66,7 +66,7 @@ fn nanoseconds(s: &[u8], from: usize, to: usize) -> u32
     let mut left: u32 = 9;
     while 0 < left {
         if i < to {
-            acc = acc * 10 + crate::digit_value(crate::to_lower(s[i])) as u32;
+            acc = acc * 10 + (s[i] - 48) as u32;
             i += 1;
             left -= 1;
         } else {

@@ -9,9 +9,12 @@ pub mod epoch;
 pub mod ordinal;
 
 ghost use mathlib.Core.Path.{_≡_};
-ghost use Prim.Native.Nat.{_-_, _≤_, min};
+ghost use mathlib.Core.Bool.{true};
+ghost use Prim.Native.Nat.{_-_, _<_, _≤_, _^_, min};
 ghost use lib.ListN.{length};
 ghost use lib.Seq.{slice};
+ghost use lib.Dec.{ltb, eqb};
+ghost use Rattle.primitive.specs.Answer.{if, matched, none};
 ghost use Rattle.primitive.specs.Text.{lower, lowered, blank, digit, letter, past, byte, tag};
 ghost use Rattle.primitive.specs.Primitive.{multispace1, comment, sign, ignored-hyphen-or-plus, ignored, space, spaced, parse-uint, dec-uint-str, dec-uint, colon, plus-or-minus, alpha1, words, index, placeAnswer, sliceAnswer, signAnswer, u8Answer, u32Answer, u64Answer};
 
@@ -67,10 +70,17 @@ pub(crate) fn is_digit(b: u8) -> bool
     48 <= b && b <= 57
 }
 
-pub(crate) fn is_letter(b: u8) -> bool
-    ensures { λ r. ⌜ r ≡ letter b ⌝ }
+// Whether a byte is a letter, small or capital.
+pub(crate) fn is_alpha(b: u8) -> bool
+    ensures { λ r. ⌜ r ≡ letter (lower b) ⌝ }
 {
-    97 <= b && b <= 122
+    if 97 <= b {
+        return b <= 122;
+    }
+    if 65 <= b {
+        return b <= 90;
+    }
+    false
 }
 
 // The end of the blanks at a place.
@@ -79,7 +89,7 @@ pub fn multispace0(s: &[u8], at: usize) -> usize
 {
     let mut i = at;
     while i < s.len() {
-        if is_blank(to_lower(s[i])) {
+        if is_blank(s[i]) {
             i += 1;
         } else {
             return i;
@@ -104,6 +114,51 @@ pub fn multispace1(s: &[u8], at: usize) -> ReadPlace
 pub fn space(s: &[u8], at: usize) -> usize
     ensures { λ r. ⌜ r ≡ space (lowered (now (s .entry))) at ⌝ }
 {
+    if s.len() <= at {
+        return at;
+    }
+    let b = s[at];
+    if 45 < b {
+        return at;
+    }
+    if b == 32 {
+        let next = at + 1;
+        if next < s.len() {
+            if 45 < s[next] {
+                return next;
+            }
+        }
+    }
+    if signed_digit(s, at) {
+        return at;
+    }
+    skip_space(s, at)
+}
+
+// Whether a sign stands there with a digit behind it, which is not ignored.
+fn signed_digit(s: &[u8], at: usize) -> bool
+    ensures { λ r. ⌜ (r ≡ true → at ≡ space (lowered (now (s .entry))) at) ⌝ }
+{
+    if s.len() <= at {
+        return false;
+    }
+    let next = at + 1;
+    if s.len() <= next {
+        return false;
+    }
+    if s[at] == 43 {
+        return is_digit(s[next]);
+    }
+    if s[at] == 45 {
+        return is_digit(s[next]);
+    }
+    false
+}
+
+// The same where there may be space. No byte above 45, the hyphen, begins any.
+fn skip_space(s: &[u8], at: usize) -> usize
+    ensures { λ r. ⌜ r ≡ space (lowered (now (s .entry))) at ⌝ }
+{
     let mut i = multispace0(s, at);
     while i < s.len() {
         let ReadPlace::Match(next) = ignored(s, i) else {
@@ -118,10 +173,10 @@ pub fn space(s: &[u8], at: usize) -> usize
 fn ignored(s: &[u8], at: usize) -> ReadPlace
     ensures { λ r. ⌜ placeAnswer r ≡ ignored (lowered (now (s .entry))) at ⌝ }
 {
-    let ReadPlace::Match(next) = comment(s, at) else {
+    let ReadPlace::Match(_) = byte(s, at, 40) else {
         return ignored_hyphen_or_plus(s, at);
     };
-    ReadPlace::Match(next)
+    comment(s, at)
 }
 
 // A hyphen or plus is ignored when no digit follows it, behind blanks too. In `- (comment) 12 weeks` a comment follows it.
@@ -133,7 +188,7 @@ fn ignored_hyphen_or_plus(s: &[u8], at: usize) -> ReadPlace
     };
     let end = multispace0(s, next);
     if end < s.len() {
-        if is_digit(to_lower(s[end])) {
+        if is_digit(s[end]) {
             return ReadPlace::NoMatch;
         }
     }
@@ -165,8 +220,41 @@ fn comment(s: &[u8], at: usize) -> ReadPlace
     ReadPlace::NoMatch
 }
 
-// A number of at most `max`.
+// A number of at most `max`, for a limit that leaves room for one digit more.
 pub(crate) fn dec_uint(s: &[u8], at: usize, max: u64) -> ReadU64
+    requires { ⌜ max < 2 ^ 60 ⌝ }
+    ensures { λ r. ⌜ u64Answer r ≡ dec-uint max (lowered (now (s .entry))) at ⌝ }
+{
+    let mut acc: u64 = 0;
+    let mut i = at;
+    while i < s.len() {
+        let b = s[i];
+        if is_digit(b) {
+            acc = acc * 10 + digit_value(b);
+            if max < acc {
+                return ReadU64::NoMatch;
+            }
+            i += 1;
+        } else {
+            return number_of(at, i, acc);
+        }
+    }
+    number_of(at, i, acc)
+}
+
+// The number n from `at` up to `end`, if anything stands there.
+fn number_of(at: usize, end: usize, n: u64) -> ReadU64
+    ensures { λ r. ⌜ u64Answer r ≡ if (ltb at end) (matched n end) none ⌝ }
+{
+    if at < end {
+        ReadU64::Match(n, end)
+    } else {
+        ReadU64::NoMatch
+    }
+}
+
+// A number of at most `max`, for any limit: the digits are gone through twice.
+fn long_uint(s: &[u8], at: usize, max: u64) -> ReadU64
     ensures { λ r. ⌜ u64Answer r ≡ dec-uint max (lowered (now (s .entry))) at ⌝ }
 {
     let ReadPlace::Match(end) = dec_uint_str(s, at) else {
@@ -196,7 +284,10 @@ pub(crate) fn dec_u32(s: &[u8], at: usize) -> ReadU32
 pub(crate) fn dec_u64(s: &[u8], at: usize) -> ReadU64
     ensures { λ r. ⌜ u64Answer r ≡ dec-uint 18446744073709551615 (lowered (now (s .entry))) at ⌝ }
 {
-    dec_uint(s, at, 18446744073709551615)
+    let ReadU64::Match(n, next) = dec_uint(s, at, 999999999999999999) else {
+        return long_uint(s, at, 18446744073709551615);
+    };
+    ReadU64::Match(n, next)
 }
 
 // Numbers behind space.
@@ -230,7 +321,7 @@ pub fn digits(s: &[u8], at: usize) -> usize
 {
     let mut i = at;
     while i < s.len() {
-        if is_digit(to_lower(s[i])) {
+        if is_digit(s[i]) {
             i += 1;
         } else {
             return i;
@@ -274,11 +365,21 @@ pub fn byte(s: &[u8], at: usize, b: u8) -> ReadPlace
     ensures { λ r. ⌜ placeAnswer r ≡ byte b (lowered (now (s .entry))) at ⌝ }
 {
     if at < s.len() {
-        if to_lower(s[at]) == b {
+        if lowers_to(s[at], b) {
             return ReadPlace::Match(at + 1);
         }
     }
     ReadPlace::NoMatch
+}
+
+// Whether a byte is b in lower case. One below 65, the letter A, is its own.
+fn lowers_to(c: u8, b: u8) -> bool
+    ensures { λ r. ⌜ r ≡ eqb (lower c) b ⌝ }
+{
+    if b < 65 {
+        return c == b;
+    }
+    to_lower(c) == b
 }
 
 // One byte behind space.
@@ -286,6 +387,23 @@ pub fn spaced_byte(s: &[u8], at: usize, b: u8) -> ReadPlace
     ensures { λ r. ⌜ placeAnswer r ≡ spaced (byte b) (lowered (now (s .entry))) at ⌝ }
 {
     byte(s, space(s, at), b)
+}
+
+// A hyphen behind space. One with a digit behind it, which is not ignored, is found at once.
+pub fn spaced_hyphen(s: &[u8], at: usize) -> ReadPlace
+    ensures { λ r. ⌜ placeAnswer r ≡ spaced (byte 45) (lowered (now (s .entry))) at ⌝ }
+{
+    if at < s.len() {
+        if s[at] == 45 {
+            let next = at + 1;
+            if next < s.len() {
+                if is_digit(s[next]) {
+                    return ReadPlace::Match(next);
+                }
+            }
+        }
+    }
+    byte(s, skip_space(s, at), 45)
 }
 
 pub fn colon(s: &[u8], at: usize) -> ReadPlace
@@ -359,7 +477,7 @@ fn letters(s: &[u8], at: usize) -> usize
 {
     let mut i = at;
     while i < s.len() {
-        if is_letter(to_lower(s[i])) {
+        if is_alpha(s[i]) {
             i += 1;
         } else {
             return i;

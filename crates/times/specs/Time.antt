@@ -104,6 +104,20 @@ am-pm-time = do
 unfoldable pub parse : Reader Time
 parse = am-pm-time <|> iso
 
+-- ---- what the code reads behind an hour
+
+abbrev pub offset-behind : ℕ → Reader Time
+offset-behind h = do
+  o ← timezone-offset
+  pure (record { hour = h; minute = 0; second = 0; nanosecond = 0; offset = Given o })
+
+abbrev pub minutes-behind : ℕ → Reader Time
+minutes-behind h = do
+  m ← minute
+  v ← optional-second
+  o ← optional-correction
+  pure (record { hour = h; minute = m; second = v .sec; nanosecond = v .nsec; offset = o })
+
 -- ---- the code's answers
 
 abbrev pub timeAnswer : ReadTime → Answer Time

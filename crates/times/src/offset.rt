@@ -135,10 +135,21 @@ fn offset_of(negative: bool, hours: u64, minutes: u64, next: usize) -> ReadOffse
 pub(crate) fn time_zone_correction(s: &[u8], at: usize) -> ReadOffset
     ensures { λ r. ⌜ offsetAnswer r ≡ time-zone-correction (lowered (now (s .entry))) at ⌝ }
 {
+    match any_offset(s, at) {
+        ReadOffset::Match(v, next) => unless_fraction(s, at, ReadOffset::Match(v, next)),
+        ReadOffset::NoMatch => ReadOffset::NoMatch,
+        ReadOffset::Stop => unless_fraction(s, at, ReadOffset::Stop),
+    }
+}
+
+// What was read, or no match where a number with a fraction stands there.
+fn unless_fraction(s: &[u8], at: usize, r: ReadOffset) -> ReadOffset
+    ensures { λ a. ⌜ offsetAnswer a ≡ without (signed-fraction (lowered (now (s .entry))) at) (offsetAnswer r) ⌝ }
+{
     if let ReadU32::Match(_, _) = signed_fraction(s, at) {
         return ReadOffset::NoMatch;
     }
-    any_offset(s, at)
+    r
 }
 
 // A number with a sign and a fraction.

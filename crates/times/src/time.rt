@@ -14,7 +14,7 @@ ghost use Prim.Native.Nat.{_+_, _%_};
 ghost use Rattle.primitive.specs.Answer.{matched, if};
 ghost use Rattle.primitive.specs.Text.{lowered};
 ghost use Rattle.primitive.specs.Primitive.{u8Answer};
-ghost use Rattle.times.specs.Time.{below, hour24, hour12, minute, second, optional-second, optional-minute, optional-correction, hour-offset, clock, iso, meridiem, am-pm-time, parse, timeAnswer, secNsecAnswer, meridiemAnswer, timeOffsetAnswer};
+ghost use Rattle.times.specs.Time.{below, hour24, hour12, minute, second, optional-second, optional-minute, optional-correction, offset-behind, minutes-behind, iso, meridiem, am-pm-time, parse, timeAnswer, secNsecAnswer, meridiemAnswer, timeOffsetAnswer};
 
 // The offset of a time, if it has one.
 pub enum TimeOffset {
@@ -82,24 +82,23 @@ pub fn parse(s: &[u8], at: usize) -> ReadTime
     }
 }
 
-// A time in 24 hours.
+// A time in 24 hours: an hour, and minutes behind a colon or else an offset.
 pub fn iso(s: &[u8], at: usize) -> ReadTime
     ensures { λ r. ⌜ timeAnswer r ≡ iso (lowered (now (s .entry))) at ⌝ }
-{
-    match hour_offset(s, at) {
-        ReadTime::Match(t, next) => ReadTime::Match(t, next),
-        ReadTime::NoMatch => clock(s, at),
-        ReadTime::Stop => ReadTime::Stop,
-    }
-}
-
-// An hour and an offset.
-fn hour_offset(s: &[u8], at: usize) -> ReadTime
-    ensures { λ r. ⌜ timeAnswer r ≡ hour-offset (lowered (now (s .entry))) at ⌝ }
 {
     let ReadU8::Match(hour, at) = hour24(s, at) else {
         return ReadTime::NoMatch;
     };
+    let ReadPlace::Match(next) = primitive::colon(s, at) else {
+        return hour_offset(s, at, hour);
+    };
+    clock(s, next, hour)
+}
+
+// The offset behind an hour.
+fn hour_offset(s: &[u8], at: usize, hour: u8) -> ReadTime
+    ensures { λ r. ⌜ timeAnswer r ≡ offset-behind hour (lowered (now (s .entry))) at ⌝ }
+{
     match crate::offset::timezone_offset(s, at) {
         ReadOffset::Match(o, next) => ReadTime::Match(
             Time {
@@ -116,16 +115,10 @@ fn hour_offset(s: &[u8], at: usize) -> ReadTime
     }
 }
 
-// Hours and minutes, then seconds or none, then a correction or none.
-fn clock(s: &[u8], at: usize) -> ReadTime
-    ensures { λ r. ⌜ timeAnswer r ≡ clock (lowered (now (s .entry))) at ⌝ }
+// The minutes behind an hour and a colon, then seconds or none, then a correction or none.
+fn clock(s: &[u8], at: usize, hour: u8) -> ReadTime
+    ensures { λ r. ⌜ timeAnswer r ≡ minutes-behind hour (lowered (now (s .entry))) at ⌝ }
 {
-    let ReadU8::Match(hour, at) = hour24(s, at) else {
-        return ReadTime::NoMatch;
-    };
-    let ReadPlace::Match(at) = primitive::colon(s, at) else {
-        return ReadTime::NoMatch;
-    };
     let ReadU8::Match(minute, at) = minute(s, at) else {
         return ReadTime::NoMatch;
     };

@@ -1,46 +1,54 @@
--- `parse_item` is its definition's choice. Assumes nothing.
+-- `parse_item` is its definition, by the first byte behind the space. Assumes nothing.
+use Rattle.items.proofs.Fronts.{fronts}
 use borrow.Author.Needs.{needs}
-use Rattle.items.proofs.Chain.{items}
-use Rattle.items.specs.Items.{parse-item}
 use Rattle.items.proofs.parse_item.Statement.{statement}
 use Rattle.items.proofs.parse_item.Tie as tie
 
-iso-item-requires : tie.Need-iso-item-requires
-iso-item-requires c κs = search needs
+space-requires : tie.Need-space-requires
+space-requires c κs = search needs
 
-enum-known-v : tie.Need-enum-known-v
-enum-known-v c = search needs
+relative-item-requires : tie.Need-relative-item-requires
+relative-item-requires c κs = search needs
 
-enum-told : tie.Need-enum-told
-enum-told c = search needs
+returns : tie.Need-returns
+returns c = search fronts
+
+shared-slice-read-if2 : tie.Need-shared-slice-read-if2
+shared-slice-read-if2 c = search needs
+
+relative-item-requires-2 : tie.Need-relative-item-requires-2
+relative-item-requires-2 c κs = search needs
+
+returns-2 : tie.Need-returns-2
+returns-2 c = search fronts
+
+shared-slice-read-if3 : tie.Need-shared-slice-read-if3
+shared-slice-read-if3 c = search needs
 
 other-item-requires : tie.Need-other-item-requires
 other-item-requires c κs = search needs
 
-enum-told-2 : tie.Need-enum-told-2
-enum-told-2 c = search needs
-
-returns : tie.Need-returns
-unfolding parse-item
-returns c = search items
-
-returns-2 : tie.Need-returns-2
-unfolding parse-item
-returns-2 c = search items
-
 returns-3 : tie.Need-returns-3
-unfolding parse-item
-returns-3 c = search items
+returns-3 c = search fronts
+
+number-item-requires : tie.Need-number-item-requires
+number-item-requires c κs = search needs
+
+returns-4 : tie.Need-returns-4
+returns-4 c = search fronts
 
 pub parse-item-spec : {M : Type 1} → statement M
 parse-item-spec =
     tie.close
     (tie.spec
-    iso-item-requires
-    enum-known-v
-    enum-told
-    other-item-requires
-    enum-told-2
+    space-requires
+    relative-item-requires
     returns
+    shared-slice-read-if2
+    relative-item-requires-2
     returns-2
-    returns-3)
+    shared-slice-read-if3
+    other-item-requires
+    returns-3
+    number-item-requires
+    returns-4)

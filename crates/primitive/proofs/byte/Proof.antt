@@ -4,14 +4,14 @@ use borrow.Author.Needs.{needs}
 use Rattle.primitive.proofs.byte.Statement.{statement}
 use Rattle.primitive.proofs.byte.Tie as tie
 
-shared-slice-read-to-lower : tie.Need-shared-slice-read-to-lower
-shared-slice-read-to-lower c = search needs
+shared-slice-read-lowers-to : tie.Need-shared-slice-read-lowers-to
+shared-slice-read-lowers-to c = search needs
 
-to-lower-requires : tie.Need-to-lower-requires
-to-lower-requires c κs = search needs
+lowers-to-requires : tie.Need-lowers-to-requires
+lowers-to-requires c κs = search needs
 
-add-t10 : tie.Need-add-t10
-add-t10 c = search needs
+add-t9 : tie.Need-add-t9
+add-t9 c = search needs
 
 returns : tie.Need-returns
 returns c = search tags
@@ -25,4 +25,4 @@ returns-3 c = search tags
 pub byte-spec : {M : Type 1} → statement M
 byte-spec =
     tie.close
-    (tie.spec shared-slice-read-to-lower to-lower-requires add-t10 returns returns-2 returns-3)
+    (tie.spec shared-slice-read-lowers-to lowers-to-requires add-t9 returns returns-2 returns-3)

@@ -1,37 +1,38 @@
--- `ignored` is a comment or else an ignored sign, from what their readers ensure. Assumes nothing.
-use Rattle.primitive.proofs.Chain.{chain}
-use Rattle.primitive.specs.Primitive.{ignored}
+-- `ignored` is a comment where a parenthesis opens, and else an ignored sign. Assumes nothing.
+use Rattle.primitive.proofs.Spaces.{spaces}
 use borrow.Author.Needs.{needs}
 use Rattle.primitive.proofs.ignored.Statement.{statement}
 use Rattle.primitive.proofs.ignored.Tie as tie
 
-comment-requires : tie.Need-comment-requires
-comment-requires c κs = search needs
-
-enum-known-next : tie.Need-enum-known-next
-enum-known-next c = search needs
+byte-requires : tie.Need-byte-requires
+byte-requires c κs = search needs
 
 enum-told : tie.Need-enum-told
 enum-told c = search needs
+
+enum-told-2 : tie.Need-enum-told-2
+enum-told-2 c = search needs
 
 ignored-hyphen-or-plus-requires : tie.Need-ignored-hyphen-or-plus-requires
 ignored-hyphen-or-plus-requires c κs = search needs
 
 returns : tie.Need-returns
-unfolding ignored
-returns c = search chain
+returns c = search spaces
+
+comment-requires : tie.Need-comment-requires
+comment-requires c κs = search needs
 
 returns-2 : tie.Need-returns-2
-unfolding ignored
-returns-2 c = search chain
+returns-2 c = search spaces
 
 pub ignored-spec : {M : Type 1} → statement M
 ignored-spec =
     tie.close
     (tie.spec
-    comment-requires
-    enum-known-next
+    byte-requires
     enum-told
+    enum-told-2
     ignored-hyphen-or-plus-requires
     returns
+    comment-requires
     returns-2)

@@ -21,11 +21,8 @@ returns c = search spaces
 multispace0-requires : tie.Need-multispace0-requires
 multispace0-requires c κs = search needs
 
-shared-slice-read-to-lower : tie.Need-shared-slice-read-to-lower
-shared-slice-read-to-lower c = search needs
-
-to-lower-requires : tie.Need-to-lower-requires
-to-lower-requires c κs = search needs
+shared-slice-read-is-digit : tie.Need-shared-slice-read-is-digit
+shared-slice-read-is-digit c = search needs
 
 is-digit-requires : tie.Need-is-digit-requires
 is-digit-requires c κs = search needs
@@ -51,8 +48,7 @@ ignored-hyphen-or-plus-spec =
     enum-told
     returns
     multispace0-requires
-    shared-slice-read-to-lower
-    to-lower-requires
+    shared-slice-read-is-digit
     is-digit-requires
     returns-2
     returns-3

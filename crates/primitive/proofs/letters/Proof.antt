@@ -16,14 +16,11 @@ abbrev μ-loop : tie.MeasureT-loop
 loop-holds : tie.Need-loop-holds Inv-loop μ-loop
 loop-holds c = search runs
 
-shared-slice-read-to-lower : tie.Need-shared-slice-read-to-lower Inv-loop μ-loop
-shared-slice-read-to-lower c = search runs
+shared-slice-read-is-alpha : tie.Need-shared-slice-read-is-alpha Inv-loop μ-loop
+shared-slice-read-is-alpha c = search runs
 
-to-lower-requires : tie.Need-to-lower-requires Inv-loop μ-loop
-to-lower-requires c κs = search runs
-
-is-letter-requires : tie.Need-is-letter-requires Inv-loop μ-loop
-is-letter-requires c κs = search runs
+is-alpha-requires : tie.Need-is-alpha-requires Inv-loop μ-loop
+is-alpha-requires c κs = search runs
 
 add-i : tie.Need-add-i Inv-loop μ-loop
 add-i c = search runs
@@ -47,9 +44,8 @@ letters-spec =
     Inv-loop
     μ-loop
     loop-holds
-    shared-slice-read-to-lower
-    to-lower-requires
-    is-letter-requires
+    shared-slice-read-is-alpha
+    is-alpha-requires
     add-i
     loop-less
     loop-again

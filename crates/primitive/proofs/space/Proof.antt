@@ -1,62 +1,50 @@
--- `space` ends where the definition's does. The loop's invariant: from `i` on, which no blank follows, the space ends where it does from `at` on. Assumes nothing.
-use Rattle.primitive.proofs.Spaces.{spaces, skipFrom}
-use mathlib.Core.Path.{_≡_}
-use Rattle.primitive.specs.Text.{lowered}
-use Rattle.primitive.specs.Primitive.{space}
-use Prim.Native.Nat.{_-_}
-use lib.ListN.{length}
+-- `space` ends where the definition's does, by the bytes at its start. Assumes nothing.
+use Rattle.primitive.proofs.Spaces.{spaces}
+use borrow.Author.Needs.{needs}
 use Rattle.primitive.proofs.space.Statement.{statement}
 use Rattle.primitive.proofs.space.Tie as tie
 
-abbrev Inv-loop : tie.InvT-loop
-Inv-loop s at i₀ i = skipFrom s i ≡ space (lowered s) at
-
-abbrev μ-loop : tie.MeasureT-loop
-μ-loop s at i₀ i = length s - i
-
-multispace0-requires : tie.Need-multispace0-requires Inv-loop μ-loop
-multispace0-requires c κs = search spaces
-
-loop-holds : tie.Need-loop-holds Inv-loop μ-loop
-loop-holds c = search spaces
-
-ignored-requires : tie.Need-ignored-requires Inv-loop μ-loop
-ignored-requires c κs = search spaces
-
-enum-known-next : tie.Need-enum-known-next Inv-loop μ-loop
-enum-known-next c = search spaces
-
-enum-told : tie.Need-enum-told Inv-loop μ-loop
-enum-told c = search spaces
-
-returns : tie.Need-returns Inv-loop μ-loop
+returns : tie.Need-returns
 returns c = search spaces
 
-multispace0-requires-2 : tie.Need-multispace0-requires-2 Inv-loop μ-loop
-multispace0-requires-2 c κs = search spaces
+shared-slice-read-b : tie.Need-shared-slice-read-b
+shared-slice-read-b c = search needs
 
-loop-less : tie.Need-loop-less Inv-loop μ-loop
-loop-less c = search spaces
-
-loop-again : tie.Need-loop-again Inv-loop μ-loop
-loop-again c = search spaces
-
-returns-2 : tie.Need-returns-2 Inv-loop μ-loop
+returns-2 : tie.Need-returns-2
 returns-2 c = search spaces
+
+add-next : tie.Need-add-next
+add-next c = search needs
+
+shared-slice-read-if5 : tie.Need-shared-slice-read-if5
+shared-slice-read-if5 c = search needs
+
+returns-3 : tie.Need-returns-3
+returns-3 c = search spaces
+
+signed-digit-requires : tie.Need-signed-digit-requires
+signed-digit-requires c κs = search needs
+
+returns-4 : tie.Need-returns-4
+returns-4 c = c .before .signed-digit .ensures (c .if6 .taken)
+
+skip-space-requires : tie.Need-skip-space-requires
+skip-space-requires c κs = search needs
+
+returns-5 : tie.Need-returns-5
+returns-5 c = search spaces
 
 pub space-spec : {M : Type 1} → statement M
 space-spec =
     tie.close
     (tie.spec
-    Inv-loop
-    μ-loop
-    multispace0-requires
-    loop-holds
-    ignored-requires
-    enum-known-next
-    enum-told
     returns
-    multispace0-requires-2
-    loop-less
-    loop-again
-    returns-2)
+    shared-slice-read-b
+    returns-2
+    add-next
+    shared-slice-read-if5
+    returns-3
+    signed-digit-requires
+    returns-4
+    skip-space-requires
+    returns-5)

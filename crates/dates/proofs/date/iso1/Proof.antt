@@ -18,8 +18,8 @@ returns : tie.Need-returns
 unfolding iso1
 returns c = search dates
 
-spaced-byte-requires : tie.Need-spaced-byte-requires
-spaced-byte-requires c κs = search needs
+spaced-hyphen-requires : tie.Need-spaced-hyphen-requires
+spaced-hyphen-requires c κs = search needs
 
 enum-known-at : tie.Need-enum-known-at
 enum-known-at c = search needs
@@ -44,8 +44,8 @@ returns-3 : tie.Need-returns-3
 unfolding iso1
 returns-3 c = search dates
 
-spaced-byte-requires-2 : tie.Need-spaced-byte-requires-2
-spaced-byte-requires-2 c κs = search needs
+spaced-hyphen-requires-2 : tie.Need-spaced-hyphen-requires-2
+spaced-hyphen-requires-2 c κs = search needs
 
 enum-known-at-2 : tie.Need-enum-known-at-2
 enum-known-at-2 c = search needs
@@ -85,7 +85,7 @@ iso1-spec =
     enum-known-from
     enum-told
     returns
-    spaced-byte-requires
+    spaced-hyphen-requires
     enum-known-at
     enum-told-2
     returns-2
@@ -93,7 +93,7 @@ iso1-spec =
     enum-known-month
     enum-told-3
     returns-3
-    spaced-byte-requires-2
+    spaced-hyphen-requires-2
     enum-known-at-2
     enum-told-4
     returns-4

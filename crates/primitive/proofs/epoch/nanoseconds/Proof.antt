@@ -3,9 +3,9 @@
 use borrow.Author.Needs.{needs}
 use native.Mathlib.Omega.{arith}
 use lib.Seq.{slice}
-use Rattle.primitive.proofs.Fractions.{small, next-small, next-small-zero, nano-zero, nano-digit, digit-within, digit-limit, fractions, nanoFrom}
+use Rattle.primitive.proofs.Fractions.{small, next-small, next-small-zero, nano-zero, nano-digit, digit-within, digit-itself, digit-range, fractions, nanoFrom}
 use Prim.Native.Nat.{_-_, _<_, _^_, _≤_}
-use mathlib.Core.Path.{_≡_}
+use mathlib.Core.Path.{_≡_, refl}
 use Rattle.primitive.specs.Text.{lowered}
 use Rattle.primitive.specs.Epoch.{nanoseconds}
 use Rattle.primitive.proofs.epoch.nanoseconds.Statement.{statement}
@@ -26,26 +26,38 @@ mul-acc c =
     let h = small _ _ (l .inv .0) (l .inv .2) (c .before .loop-test .taken) in
     omega arith
 
-shared-slice-read-to-lower : tie.Need-shared-slice-read-to-lower Inv-loop μ-loop
-shared-slice-read-to-lower c =
-    let h = digit-within _ _ _ _ (c .before .before .before .before .before .pre) (c .before .before .before .loop .inv .1) (c .before .if1 .taken) in search needs
+shared-slice-read-acc : tie.Need-shared-slice-read-acc Inv-loop μ-loop
+shared-slice-read-acc c =
+    let h = digit-within _ _ _ _ (c .before .before .before .before .pre) (c .before .before .before .loop .inv .1) (c .before .if1 .taken) in search needs
 
-to-lower-requires : tie.Need-to-lower-requires Inv-loop μ-loop
-to-lower-requires c κs = search fractions
-
-digit-value-requires : tie.Need-digit-value-requires Inv-loop μ-loop
-digit-value-requires c κs = search fractions
+sub-acc : tie.Need-sub-acc Inv-loop μ-loop
+sub-acc c =
+    let l = c .before .before .before .loop in
+    let more = c .before .before .loop-test .taken in
+    let run = c .before .before .before .before .pre in
+    let inside = c .before .if1 .taken in
+    let range = digit-range _ _ _ _ run (l .inv .1) inside in
+    let low = range .0 in
+    omega arith
 
 cast-acc : tie.Need-cast-acc Inv-loop μ-loop
-cast-acc c = search fractions
+cast-acc c =
+    let l = c .before .before .before .loop in
+    let more = c .before .before .loop-test .taken in
+    let run = c .before .before .before .before .pre in
+    let inside = c .before .if1 .taken in
+    let range = digit-range _ _ _ _ run (l .inv .1) inside in
+    let limit = range .1 in
+    omega arith
 
 add-acc : tie.Need-add-acc Inv-loop μ-loop
 add-acc c =
-    let l = c .before .before .before .before .before .loop in
-    let more = c .before .before .before .before .loop-test .taken in
-    let run = c .before .before .before .before .before .before .before .pre in
-    let inside = c .before .before .before .if1 .taken in
-    let limit = digit-limit _ _ _ _ run (l .inv .1) inside _ _ (c .before .to-lower .ensures) (c .digit-value .ensures) in
+    let l = c .before .before .before .loop in
+    let more = c .before .before .loop-test .taken in
+    let run = c .before .before .before .before .pre in
+    let inside = c .before .if1 .taken in
+    let range = digit-range _ _ _ _ run (l .inv .1) inside in
+    let limit = range .1 in
     let h = small _ _ (l .inv .0) (l .inv .2) more in
     omega arith
 
@@ -60,16 +72,16 @@ loop-less c = search fractions
 
 loop-again : tie.Need-loop-again Inv-loop μ-loop
 loop-again c =
-    let l = c .before .before .before .before .before .loop in
-    let more = c .before .before .before .before .loop-test .taken in
-    let run = c .before .before .before .before .before .before .before .pre in
-    let inside = c .before .before .before .if1 .taken in
-    let limit = digit-limit _ _ _ _ run (l .inv .1) inside _ _ (c .before .to-lower .ensures) (c .digit-value .ensures) in
+    let l = c .before .before .before .loop in
+    let more = c .before .before .loop-test .taken in
+    let run = c .before .before .before .before .pre in
+    let inside = c .before .if1 .taken in
+    let range = digit-range _ _ _ _ run (l .inv .1) inside in
     let within = digit-within _ _ _ _ run (l .inv .1) inside in (
       search needs,
       search needs,
-      next-small _ _ (l .inv .0) (l .inv .2) more _ limit,
-      nano-digit _ _ _ _ _ _ (l .inv .3) more inside within _ _ (c .before .to-lower .ensures) (c .digit-value .ensures),
+      next-small _ _ (l .inv .0) (l .inv .2) more _ (range .1),
+      nano-digit _ _ _ _ _ _ (l .inv .3) more inside within _ _ (digit-itself _ _ _ _ run (l .inv .1) inside) refl,
     )
 
 mul-acc-2 : tie.Need-mul-acc-2 Inv-loop μ-loop
@@ -103,9 +115,8 @@ nanoseconds-spec =
     μ-loop
     loop-holds
     mul-acc
-    shared-slice-read-to-lower
-    to-lower-requires
-    digit-value-requires
+    shared-slice-read-acc
+    sub-acc
     cast-acc
     add-acc
     add-i

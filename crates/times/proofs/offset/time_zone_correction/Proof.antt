@@ -1,31 +1,50 @@
--- `time_zone_correction` is an offset where no number with a fraction stands. Assumes nothing.
+-- `time_zone_correction` is an offset, or a stop, where no number with a fraction stands. Assumes nothing.
 use Rattle.times.proofs.Offsets.{offsets}
 use Rattle.times.specs.Offset.{time-zone-correction}
 use borrow.Author.Needs.{needs}
 use Rattle.times.proofs.offset.time_zone_correction.Statement.{statement}
 use Rattle.times.proofs.offset.time_zone_correction.Tie as tie
 
-signed-fraction-requires : tie.Need-signed-fraction-requires
-signed-fraction-requires c κs = search needs
+any-offset-requires : tie.Need-any-offset-requires
+any-offset-requires c κs = search needs
+
+enum-known-v : tie.Need-enum-known-v
+enum-known-v c = search needs
+
+unless-fraction-requires : tie.Need-unless-fraction-requires
+unless-fraction-requires c κs = search needs
 
 enum-told : tie.Need-enum-told
 enum-told c = search needs
+
+enum-told-2 : tie.Need-enum-told-2
+enum-told-2 c = search needs
+
+unless-fraction-requires-2 : tie.Need-unless-fraction-requires-2
+unless-fraction-requires-2 c κs = search needs
 
 returns : tie.Need-returns
 unfolding time-zone-correction
 returns c = search offsets
 
-enum-told-2 : tie.Need-enum-told-2
-enum-told-2 c = search needs
-
-any-offset-requires : tie.Need-any-offset-requires
-any-offset-requires c κs = search needs
-
 returns-2 : tie.Need-returns-2
 unfolding time-zone-correction
 returns-2 c = search offsets
 
+returns-3 : tie.Need-returns-3
+unfolding time-zone-correction
+returns-3 c = search offsets
+
 pub time-zone-correction-spec : {M : Type 1} → statement M
 time-zone-correction-spec =
     tie.close
-    (tie.spec signed-fraction-requires enum-told returns enum-told-2 any-offset-requires returns-2)
+    (tie.spec
+    any-offset-requires
+    enum-known-v
+    unless-fraction-requires
+    enum-told
+    enum-told-2
+    unless-fraction-requires-2
+    returns
+    returns-2
+    returns-3)

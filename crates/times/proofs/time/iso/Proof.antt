@@ -1,46 +1,54 @@
--- `iso` is its definition's choice; a stop is passed up. Assumes nothing.
-use Rattle.times.proofs.Times.{times}
-use Rattle.times.specs.Time.{iso}
+-- `iso` is its definition's choice, by the colon behind the hour. Assumes nothing.
+use Rattle.times.proofs.Hours.{hours}
 use borrow.Author.Needs.{needs}
 use Rattle.times.proofs.time.iso.Statement.{statement}
 use Rattle.times.proofs.time.iso.Tie as tie
 
-hour-offset-requires : tie.Need-hour-offset-requires
-hour-offset-requires c κs = search needs
+hour24-requires : tie.Need-hour24-requires
+hour24-requires c κs = search needs
 
-enum-known-t : tie.Need-enum-known-t
-enum-known-t c = search needs
+enum-known-hour : tie.Need-enum-known-hour
+enum-known-hour c = search needs
 
 enum-told : tie.Need-enum-told
 enum-told c = search needs
 
-clock-requires : tie.Need-clock-requires
-clock-requires c κs = search needs
+returns : tie.Need-returns
+returns c = search hours
+
+colon-requires : tie.Need-colon-requires
+colon-requires c κs = search needs
+
+enum-known-next : tie.Need-enum-known-next
+enum-known-next c = search needs
 
 enum-told-2 : tie.Need-enum-told-2
 enum-told-2 c = search needs
 
-returns : tie.Need-returns
-unfolding iso
-returns c = search times
+hour-offset-requires : tie.Need-hour-offset-requires
+hour-offset-requires c κs = search needs
 
 returns-2 : tie.Need-returns-2
-unfolding iso
-returns-2 c = search times
+returns-2 c = search hours
+
+clock-requires : tie.Need-clock-requires
+clock-requires c κs = search needs
 
 returns-3 : tie.Need-returns-3
-unfolding iso
-returns-3 c = search times
+returns-3 c = search hours
 
 pub iso-spec : {M : Type 1} → statement M
 iso-spec =
     tie.close
     (tie.spec
-    hour-offset-requires
-    enum-known-t
+    hour24-requires
+    enum-known-hour
     enum-told
-    clock-requires
-    enum-told-2
     returns
+    colon-requires
+    enum-known-next
+    enum-told-2
+    hour-offset-requires
     returns-2
+    clock-requires
     returns-3)
