@@ -5,7 +5,7 @@ use mathlib.Core.Path.{_≡_, refl, sym, ap, _∙_}
 use lib.IntN.{ℤ, pos, negsuc, _+ℤ_, _*ℤ_}
 use Rattle.integers.specs.Integers.{sum, product, naturalOf}
 use Rattle.extended.specs.Outcome.{accepted, refused}
-use Rattle.extended.specs.Calendar.{leap, yearDays, daysBeforeYear, monthDays, daysOfMonths, dayNumber, ymd, nextDay, civil}
+use Rattle.calendar.specs.Calendar.{leap, yearDays, daysBeforeYear, monthDays, daysOfMonths, dayNumber, ymd, nextDay, civil}
 use Rattle.extended.specs.Extended.{make, date, time, test, testDate, testTime, testOffset, testYear, accept, clockSeconds, moment, fromUnixSeconds, withDate, clamp, addDays, addYears, addMonths}
 use Rattle.extended.specs.declared.ExtendedDateTime.{ExtendedDateTime}
 use Rattle.extended.proofs.Records.{facts}

@@ -15,11 +15,11 @@ use Rattle.integers.specs.declared.Checked.the-variants.{Fits, Overflow}
 use Rattle.integers.proofs.Differences.{diff-pos, diff-sub}
 use Rattle.integers.proofs.Range.{diff-fits, fits-in, fits-value}
 use Rattle.extended.specs.Outcome.{Outcome, accepted, refused, check, _>>=_, _>>_}
-use Rattle.extended.specs.Calendar.{dayNumber, civil, ymd}
+use Rattle.calendar.specs.Calendar.{dayNumber, civil, ymd}
 use Rattle.extended.specs.Extended.{checked, fromZero, make, date, time, test, testOffset, testYear, clockSeconds, moment, clockRecord, fromClock, fromUnixSeconds}
-use Rattle.extended.specs.declared.Civil.{Civil}
+use Rattle.calendar.specs.declared.Civil.{Civil}
 use Rattle.extended.specs.declared.ExtendedDateTime.{ExtendedDateTime}
-use Rattle.extended.proofs.Dates.{place, back}
+use Rattle.calendar.proofs.Dates.{place, back}
 use Rattle.extended.proofs.Outcomes.{apart, same, check-true, first-passed}
 use Rattle.extended.proofs.Records.{Accepted, year-fact, year-test, clock-bound}
 

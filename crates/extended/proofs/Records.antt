@@ -9,12 +9,12 @@ use lib.Signed.{leZ, mag}
 use borrow.Author.Tests.{leb-true, le-leb}
 use Rattle.integers.proofs.Differences.{untrue}
 use Rattle.extended.specs.Outcome.{Outcome, accepted, number, check, _>>_}
-use Rattle.extended.specs.Calendar.{monthDays, dayNumber, Valid, ymd}
+use Rattle.calendar.specs.Calendar.{monthDays, dayNumber, Valid, ymd}
 use Rattle.extended.specs.Extended.{date, time, dateOf, timeOf, testDate, testTime, testOffset, test, testYear, clockSeconds}
 use Rattle.extended.specs.declared.DateParts.{DateParts}
 use Rattle.extended.specs.declared.TimeParts.{TimeParts}
 use Rattle.extended.specs.declared.ExtendedDateTime.{ExtendedDateTime}
-use Rattle.extended.proofs.Counting.{and-left, and-right, month-bound, day-bound}
+use Rattle.calendar.proofs.Counting.{and-left, and-right, month-bound, day-bound}
 use Rattle.extended.proofs.Outcomes.{Proper, check-proper, then-proper, check-true, first-passed}
 
 -- ---- the tests by name

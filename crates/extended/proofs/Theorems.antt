@@ -6,12 +6,13 @@ use mathlib.Core.Logic.{_↔_}
 use native.Mathlib.Omega.{arith}
 use lib.IntN.{ℤ, pos, _+ℤ_, _-ℤ_, _*ℤ_}
 use Rattle.extended.specs.Outcome.{Outcome, accepted, refused}
-use Rattle.extended.specs.Calendar.{leap, yearDays, daysBeforeYear, monthDays, daysOfMonths, dayNumber, Valid, ymd, nextDay, civil, nextWeekday, weekday, mondayWeekday, sundayWeekday}
+use Rattle.calendar.specs.Calendar.{leap, yearDays, daysBeforeYear, monthDays, daysOfMonths, dayNumber, Valid, ymd, nextDay, civil, nextWeekday, weekday}
+use Rattle.extended.specs.Calendar.{mondayWeekday, sundayWeekday}
 use Rattle.extended.specs.Extended.{make, date, time, dateOf, timeOf, test, testOffset, clockSeconds, moment, fromUnixSeconds, addSeconds, addUnits, addDays, addHours, addMinutes}
-use Rattle.extended.specs.declared.Civil.{Civil}
+use Rattle.calendar.specs.declared.Civil.{Civil}
 use Rattle.extended.specs.declared.ExtendedDateTime.{ExtendedDateTime}
-use Rattle.extended.proofs.Counting.{weekday-closed}
-use Rattle.extended.proofs.Dates.{dayOf, place, unique, number-next}
+use Rattle.calendar.proofs.Counting.{weekday-closed}
+use Rattle.calendar.proofs.Dates.{dayOf, place, unique, number-next}
 use Rattle.extended.proofs.Outcomes.{apart}
 use Rattle.extended.proofs.Records.{Accepted, facts, tested}
 use Rattle.extended.proofs.Moments.{from-moment, given}

@@ -7,8 +7,11 @@ ghost use mathlib.Core.Path.{_≡_};
 ghost use Prim.Native.Nat.{_+_, _-_, _*_, _<_, _≤_};
 ghost use lib.IntN.{pos, _-ℤ_};
 ghost use Rattle.extended.specs.Outcome.{Outcome, accepted, number};
-ghost use Rattle.extended.specs.Calendar.{leap, monthDays, daysBeforeYear, yearDays, daysOfMonths, dayNumber, Valid, ymd, civil};
+ghost use Rattle.calendar.specs.Calendar.{daysOfMonths, dayNumber};
 ghost use Rattle.extended.specs.Extended.{madeOf, secondsOf, countOf, make, blank, date, time, dateOf, timeOf, testDate, testTime, testOffset, test, testYear, accept, clockSeconds, moment, unixSeconds, fromClock, fromUnixSeconds, withDate, withTime, withOffset, carried, addSeconds, addUnits, addDays, addHours, addMinutes, clamp, addYears, addMonths, dayOfYear, weekdaySunday0, weekdayMonday0};
+use calendar::civil_from_days;
+pub use calendar::days_in_month;
+pub use calendar::is_leap_year;
 use integers::Checked;
 use integers::Natural;
 
@@ -390,6 +393,10 @@ fn date_refusal(date: DateParts) -> u32
     if date.day < 1 {
         return 12;
     }
+    // Every month has these days, so that most dates ask no table and no leap year.
+    if date.day <= 28 {
+        return 0;
+    }
     if date.day > days_in_month(date.year, date.month) {
         return 12;
     }
@@ -491,36 +498,6 @@ fn months_before(year: u32, month: u8) -> i64
     ((year as u64) * 12 + (month - 1) as u64) as i64
 }
 
-pub fn is_leap_year(year: u32) -> bool
-    ensures { λ r. ⌜ r ≡ leap year ⌝ }
-{
-    (year % 400 == 0) | ((year % 4 == 0) & (year % 100 != 0))
-}
-
-const MONTH_DAYS: [u8; 12] = [31, 28, 31, 30, 31, 30, 31, 31, 30, 31, 30, 31];
-
-pub fn days_in_month(year: u32, month: u8) -> u8
-    ensures { λ r. ⌜ r ≡ monthDays year month ⌝ }
-{
-    if month < 1 {
-        return 0;
-    }
-    if month > 12 {
-        return 0;
-    }
-    let i = (month - 1) as usize;
-    MONTH_DAYS[i] + ((month == 2) & is_leap_year(year)) as u8
-}
-
-// The days of all years before `year`. Of the years that 100 divides, 400 divides one in four.
-fn days_before_year(year: u64) -> u64
-    requires { ⌜ year < 1099511627776 ⌝ }
-    ensures { λ r. ⌜ r ≡ daysBeforeYear year ⌝ }
-{
-    let centuries = (year + 99) / 100;
-    365 * year + (year + 3) / 4 - centuries + (centuries + 3) / 4
-}
-
 // The days of the months of `year` before `month`: those of months on a line, less what February is shorter than on it.
 fn days_before_month(year: u32, month: u8) -> u32
     requires { ⌜ (1 ≤ month) × (month ≤ 12) ⌝ }
@@ -531,68 +508,16 @@ fn days_before_month(year: u32, month: u8) -> u32
 }
 
 // The day number of a date. The years here begin in March, 400 of them before year 0: the leap day is then the last day of
-// its year, and no year has to be tested for it.
+// its year, and no year has to be tested for it. January and February are months 13 and 14 of the year before; a month's
+// first day lies on a line.
 fn days_from_civil(year: u32, month: u8, day: u8) -> u64
     requires { ⌜ (1 ≤ month) × (month ≤ 12) × (1 ≤ day) × (year ≤ 2147485547) ⌝ }
     ensures { λ r. ⌜ r ≡ dayNumber year month day ⌝ }
 {
     let early = (month < 3) as u32;
     let march_year = year + 400 - early;
-    let march_month = month as u32 + 12 * early - 3;
+    let march_month = month as u32 + 12 * early;
     let centuries = march_year / 100;
-    let days = 365 * (march_year as u64) + (march_year / 4 - centuries + centuries / 4) as u64;
-    days + ((153 * march_month + 2) / 5 + day as u32) as u64 - 146038
-}
-
-// A date whose year may be any.
-pub struct Civil {
-    pub year: u64,
-    pub month: u8,
-    pub day: u8,
-}
-
-// The date of a day number: the block of 400 years that holds it, the year in the block, the month in the year.
-fn civil_from_days(days: u64) -> Civil
-    ensures { λ r. ⌜ r ≡ civil days ⌝ }
-{
-    let day_of_block = (days % 146097) as u32;
-    let year_of_block = year_in_block(day_of_block);
-    let day_of_year = day_of_block - days_before_year(year_of_block as u64) as u32;
-    let date = date_in_year(year_of_block, day_of_year);
-    Civil {
-        year: days / 146097 * 400 + year_of_block as u64,
-        month: date.month,
-        day: date.day,
-    }
-}
-
-// The year of a block of 400 that holds a day of the block. No year has more than 366 days, and the years of a block are so
-// few that the quotient is at most one too small.
-fn year_in_block(day: u32) -> u32
-    requires { ⌜ day < 146097 ⌝ }
-    ensures { λ r. ⌜ (daysBeforeYear r ≤ day) × (day < daysBeforeYear (r + 1)) ⌝ }
-{
-    let year = day / 366;
-    year + (days_before_year(year as u64 + 1) <= day as u64) as u32
-}
-
-struct MonthDay {
-    month: u8,
-    day: u8,
-}
-
-// The month and the day of the month of a day of a year. With two days more for February, or one in a leap year, the months
-// lie on a line.
-fn date_in_year(year: u32, day: u32) -> MonthDay
-    requires { ⌜ day < yearDays year ⌝ }
-    ensures { λ r. ⌜ Valid (ymd year (r .month) (r .day)) × (daysOfMonths year (r .month - 1) + (r .day - 1) ≡ day) ⌝ }
-{
-    let leap = is_leap_year(year) as u32;
-    let late = (day >= 59 + leap) as u32;
-    let even = day + late * (2 - leap);
-    let month = (12 * even + 373) / 367;
-    MonthDay {
-        month: month as u8,
-        day: (even - (367 * month - 362) / 12 + 1) as u8,
-    }
+    let days = 1461 * (march_year as u64) / 4 - (centuries - centuries / 4) as u64;
+    days + ((979 * march_month - 2919) / 32 + day as u32) as u64 - 146038
 }

@@ -2,4 +2,9 @@
 pub mod Widths
 pub mod Putting
 pub mod Part
+pub mod Splitting
+pub mod Answering
+pub mod Keeping
+pub mod Chunks
+pub mod Turns
 pub mod Examples

@@ -6,14 +6,14 @@ use extended::ExtendedDateTime;
 use writer::Written;
 ghost use mathlib.Core.Path.{_≡_};
 ghost use mathlib.Core.List.{[], _∷_};
-ghost use Prim.Native.Nat.{_+_, _≤_, _<_};
-ghost use lib.ListN.{length};
+ghost use Prim.Native.Nat.{_+_, _-_, _≤_, _<_, min};
+ghost use lib.ListN.{length, drop};
 ghost use Rattle.extended.specs.Outcome.{number};
 ghost use Rattle.builder.specs.Building.{builtOf};
 ghost use Rattle.reading.specs.Reading.{readText};
 ghost use Rattle.writer.specs.Writer.{width, digits, written, bytesOf};
 ghost use Rattle.lines_lib.specs.Answers.{refusalLine, writtenLine, lineAnswer, Put};
-ghost use Rattle.lines_lib.specs.Lines.{epoch};
+ghost use Rattle.lines_lib.specs.Lines.{epoch, lineLength, answers, answered, unlines, wanting, kept};
 
 // An answer has no more bytes: number 0, a blank, a text of 41 bytes and byte 10.
 pub const LONGEST_ANSWER: usize = 44;
@@ -34,6 +34,9 @@ pub struct Progress {
 // Answers whole lines, from the front of the chunk to the front of the lent place.
 pub fn put_answers(chunk: &[u8], base: ExtendedDateTime, out: &mut [u8]) -> Progress
     ensures { λ r. ⌜ (r .taken ≤ length (now (chunk .entry))) × (r .used ≤ length (now (out .entry))) ⌝ }
+    ensures { λ r. ⌜ r .taken ≡ length (unlines (answered (now (chunk .entry)) base (length (now (out .entry))))) ⌝ }
+    ensures { λ r. ⌜ Put (answers base (answered (now (chunk .entry)) base (length (now (out .entry))))) 0 (now (out .entry)) (r .used) (now (out .exit)) ⌝ }
+    ensures { λ r. ⌜ r .full ≡ wanting (length (now (chunk .entry)) - r .taken) (length (now (out .entry)) - r .used) ⌝ }
 {
     let mut taken = 0;
     let mut used = 0;
@@ -65,7 +68,7 @@ pub fn put_answers(chunk: &[u8], base: ExtendedDateTime, out: &mut [u8]) -> Prog
 
 // Moves a line that has not ended to the front, no more of it than decides its answer, and answers how much that is.
 pub fn keep(buffer: &mut [u8], from: usize, end: usize) -> usize
-    ensures { λ r. ⌜ r ≤ 4097 ⌝ }
+    ensures { λ r. ⌜ Put (kept (now (buffer .entry)) from end) 0 (now (buffer .entry)) r (now (buffer .exit)) ⌝ }
 {
     if end < from {
         return 0;
@@ -83,7 +86,7 @@ pub fn keep(buffer: &mut [u8], from: usize, end: usize) -> usize
 }
 
 fn least(a: usize, b: usize) -> usize
-    ensures { λ r. ⌜ (r ≤ a) × (r ≤ b) ⌝ }
+    ensures { λ r. ⌜ r ≡ min a b ⌝ }
 {
     if a < b {
         return a;
@@ -109,7 +112,7 @@ pub fn epoch() -> ExtendedDateTime
 
 // Where the first line ends: at a byte 10, or with the bytes.
 pub fn first_line_end(bytes: &[u8]) -> usize
-    ensures { λ r. ⌜ r ≤ length (now (bytes .entry)) ⌝ }
+    ensures { λ r. ⌜ (r ≡ lineLength (now (bytes .entry))) × (r ≤ length (now (bytes .entry))) ⌝ }
 {
     line_end(bytes, 0)
 }
@@ -117,7 +120,7 @@ pub fn first_line_end(bytes: &[u8]) -> usize
 // Where the line that begins at `from` ends: at a byte 10, or with the bytes.
 fn line_end(bytes: &[u8], from: usize) -> usize
     requires { ⌜ from ≤ length (now bytes) ⌝ }
-    ensures { λ r. ⌜ (from ≤ r) × (r ≤ length (now (bytes .entry))) ⌝ }
+    ensures { λ r. ⌜ (r ≡ from + lineLength (drop from (now (bytes .entry)))) × (from ≤ r) × (r ≤ length (now (bytes .entry))) ⌝ }
 {
     let mut i = from;
     while i < bytes.len() {

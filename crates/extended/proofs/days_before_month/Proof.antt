@@ -5,8 +5,8 @@ use mathlib.Core.Bool.{Bool, false, true}
 use native.Mathlib.Omega.{arith}
 use lib.Dec.{ltb}
 use borrow.Author.Needs.{needs}
-use Rattle.extended.proofs.Counting.{byte-small, line, months-line, shortened}
-use Rattle.extended.specs.Calendar.{daysOfMonths}
+use Rattle.calendar.proofs.Counting.{byte-small, line, months-line, shortened}
+use Rattle.calendar.specs.Calendar.{daysOfMonths}
 use mir.Val.{boolByte}
 use Rattle.extended.proofs.days_before_month.Statement.{statement}
 use Rattle.extended.proofs.days_before_month.Tie as tie

@@ -1,13 +1,13 @@
 -- `extended::days_from_civil` meets its contract: the days of a year that begins in March. Assumes nothing.
-use Prim.Native.Nat.{_*_, _+_, _/_, _<_, _≤_, ℕ}
+use Prim.Native.Nat.{_*_, _+_, _<_, _≤_, ℕ}
 use mathlib.Core.Path.{_≡_, refl}
 use mathlib.Core.Bool.{Bool, false, true}
 use native.Mathlib.Omega.{arith}
 use lib.Dec.{ltb}
 use borrow.Author.Needs.{needs}
 use borrow.Author.Tests.{ltb-false}
-use Rattle.extended.proofs.Counting.{byte-small, day-bound, march-date, marchDays, marchMonth, marchYear}
-use Rattle.extended.specs.Calendar.{dayNumber}
+use Rattle.calendar.proofs.Counting.{byte-small, day-bound, fromMarch, march-date, marchDays, marchMonth, marchYear}
+use Rattle.calendar.specs.Calendar.{dayNumber}
 use mir.Val.{boolByte}
 use Rattle.extended.proofs.days_from_civil.Statement.{statement}
 use Rattle.extended.proofs.days_from_civil.Tie as tie
@@ -19,7 +19,7 @@ enough m h false p = omega (arith, ltb-false)
 sum : (c : tie.Start) →
     let a = c .args in
     let t = ltb (a .month) 3 in
-    (marchDays (marchYear t (a .year)) + (153 * marchMonth t (a .month) + 2) / 5 + a .day ≡ dayNumber (a .year) (a .month) (a .day) + 146038)
+    (marchDays (marchYear t (a .year)) + fromMarch (marchMonth t (a .month)) + a .day ≡ dayNumber (a .year) (a .month) (a .day) + 146038)
     × (dayNumber (a .year) (a .month) (a .day) + 146038 < 18446744073709551616)
 sum c =
     let a = c .args in (
@@ -42,9 +42,6 @@ mul-march-month c = record { fits = omega (arith, byte-small (ltb (c .args .mont
 add-march-month : tie.Need-add-march-month
 add-march-month c = record { fits = omega (arith, byte-small (ltb (c .args .month) 3)) }
 
-sub-march-month : tie.Need-sub-march-month
-sub-march-month c = enough (c .args .month) (c .pre .0) (ltb (c .args .month) 3) refl
-
 cast-days : tie.Need-cast-days
 cast-days c = search needs
 
@@ -54,32 +51,29 @@ mul-days c = search needs
 sub-days : tie.Need-sub-days
 sub-days c = search needs
 
-add-days : tie.Need-add-days
-add-days c = search needs
-
 cast-days-2 : tie.Need-cast-days-2
 cast-days-2 c = search needs
 
-add-days-2 : tie.Need-add-days-2
-add-days-2 c = search needs
+sub-days-2 : tie.Need-sub-days-2
+sub-days-2 c = search needs
 
 mul-result : tie.Need-mul-result
 mul-result c = record { fits = omega (arith, byte-small (ltb (c .args .month) 3)) }
 
+sub-result : tie.Need-sub-result
+sub-result c = omega (arith, enough (c .args .month) (c .pre .0) (ltb (c .args .month) 3) refl)
+
 add-result : tie.Need-add-result
 add-result c = record { fits = omega (arith, byte-small (ltb (c .args .month) 3)) }
-
-add-result-2 : tie.Need-add-result-2
-add-result-2 c = record { fits = omega (arith, byte-small (ltb (c .args .month) 3)) }
 
 cast-result : tie.Need-cast-result
 cast-result c = record { fits = omega (arith, byte-small (ltb (c .args .month) 3)) }
 
-add-result-3 : tie.Need-add-result-3
-add-result-3 c = record { fits = omega (arith, sum c) }
+add-result-2 : tie.Need-add-result-2
+add-result-2 c = record { fits = omega (arith, sum c) }
 
-sub-result : tie.Need-sub-result
-sub-result c = search needs
+sub-result-2 : tie.Need-sub-result-2
+sub-result-2 c = omega (arith, sum c)
 
 returns : tie.Need-returns
 returns c = omega (arith, sum c)
@@ -93,17 +87,15 @@ days-from-civil-spec =
     sub-march-year
     mul-march-month
     add-march-month
-    sub-march-month
     cast-days
     mul-days
     sub-days
-    add-days
     cast-days-2
-    add-days-2
+    sub-days-2
     mul-result
-    add-result
-    add-result-2
-    cast-result
-    add-result-3
     sub-result
+    add-result
+    cast-result
+    add-result-2
+    sub-result-2
     returns)

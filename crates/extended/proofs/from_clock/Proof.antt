@@ -6,7 +6,7 @@ use mir.Facts.{toZ-ofZ}
 use borrow.Author.Needs.{needs}
 use Rattle.extended.proofs.Outcomes.{passed, refused-by}
 use Rattle.extended.proofs.Records.{year-fact, year-proper}
-use Rattle.extended.specs.Calendar.{civil}
+use Rattle.calendar.specs.Calendar.{civil}
 use Rattle.extended.specs.Extended.{clockRecord, fromClock, testYear}
 use Rattle.extended.specs.Outcome.{accepted}
 use Rattle.extended.proofs.from_clock.Statement.{statement}

@@ -8,7 +8,7 @@ use mir.Syntax.{w32, w64}
 use mir.Val.{SFits, ofZ, toZ}
 use mir.Facts.{toZ-ofZ, toZ-pos}
 use borrow.Author.Needs.{needs}
-use Rattle.extended.proofs.Dates.{back}
+use Rattle.calendar.proofs.Dates.{back}
 use Rattle.integers.proofs.Differences.{diff-pos, diff-sub}
 use Rattle.integers.proofs.Range.{as-diff, diff-fits, raised-near}
 use Rattle.integers.specs.Integers.{raised}

@@ -1,19 +1,19 @@
--- `lines_lib::put_answers` stays in the chunk and in the lent place, and ends. Assumes nothing.
-use mathlib.Core.Path.{_≡_}
-use Prim.Native.Nat.{_≤_, _-_}
+-- `lines_lib::put_answers` meets its contract: what is answered and what is left to answer are the whole, at each turn. Assumes nothing.
+use Prim.Native.Nat.{_-_}
 use lib.ListN.{length}
 use borrow.Author.Needs.{needs}
+use Rattle.lines_lib.proofs.Answering.{Going, going-start, going-on, stopped-full, stopped-unended, stopped-none}
 use Rattle.lines_lib.proofs.put_answers.Statement.{statement}
 use Rattle.lines_lib.proofs.put_answers.Tie as tie
 
 abbrev Inv-loop : tie.InvT-loop
-Inv-loop chunk base out₀ taken₀ used₀ out taken used = (taken ≤ length chunk) × (used ≤ length out) × (length out ≡ length out₀)
+Inv-loop chunk base out₀ taken₀ used₀ out taken used = Going chunk base out₀ out taken used
 
 abbrev μ-loop : tie.MeasureT-loop
 μ-loop chunk base out₀ taken₀ used₀ out taken used = length chunk - taken
 
 loop-holds : tie.Need-loop-holds Inv-loop μ-loop
-loop-holds c = search needs
+loop-holds c = search (going-start, needs)
 
 sub-if1 : tie.Need-sub-if1 Inv-loop μ-loop
 sub-if1 c = search needs
@@ -22,7 +22,7 @@ same-length : tie.Need-same-length Inv-loop μ-loop
 same-length c = search needs
 
 returns : tie.Need-returns Inv-loop μ-loop
-returns c = search needs
+returns c = stopped-full (c .before .before .loop .inv) (c .before .loop-test .taken) (c .if1 .taken)
 
 line-end-requires : tie.Need-line-end-requires Inv-loop μ-loop
 line-end-requires c κs = search needs
@@ -31,7 +31,9 @@ same-length-2 : tie.Need-same-length-2 Inv-loop μ-loop
 same-length-2 c = search needs
 
 returns-2 : tie.Need-returns-2 Inv-loop μ-loop
-returns-2 c = search needs
+returns-2 c =
+    let e = c .before .line-end in
+    stopped-unended (c .before .before .before .before .loop .inv) (e .result) (e .ensures .0) (c .if2 .taken) (c .before .before .if1 .left)
 
 sub-put-line : tie.Need-sub-put-line Inv-loop μ-loop
 sub-put-line c = search needs
@@ -64,13 +66,17 @@ loop-less : tie.Need-loop-less Inv-loop μ-loop
 loop-less c = search needs
 
 loop-again : tie.Need-loop-again Inv-loop μ-loop
-loop-again c = search needs
+loop-again c =
+    let l = c .before .before .before .before .before .before .before .before .before .loop in
+    let e = c .before .before .before .before .before .before .line-end in
+    let p = c .before .before .put-line in
+    going-on (l .inv) (e .result) (p .result) (p .last .1 .1 .0) (e .ensures .0) (c .before .before .before .before .before .if2 .left) (e .ensures .2) (search needs) (p .ensures .0) (p .ensures .1)
 
 same-length-3 : tie.Need-same-length-3 Inv-loop μ-loop
 same-length-3 c = search needs
 
 returns-3 : tie.Need-returns-3 Inv-loop μ-loop
-returns-3 c = search needs
+returns-3 c = stopped-none (c .before .loop .inv) (c .loop-test .left)
 
 pub put-answers-spec : {M : Type 1} → statement M
 put-answers-spec =

@@ -10,7 +10,7 @@ use borrow.Author.Needs.{needs}
 use Rattle.extended.proofs.Adding.{no-days}
 use Rattle.extended.proofs.Outcomes.{passed, refused-by}
 use Rattle.extended.proofs.Records.{tested, year-fact, year-proper}
-use Rattle.extended.specs.Calendar.{monthDays}
+use Rattle.calendar.specs.Calendar.{monthDays}
 use Rattle.extended.specs.Extended.{accept, addDays, clamp, date, madeOf, make, test, testYear, timeOf, withDate}
 use Rattle.extended.specs.Outcome.{Outcome, _>>=_, _>>_, accepted, refused}
 use Rattle.extended.specs.declared.ExtendedDateTime.{ExtendedDateTime}

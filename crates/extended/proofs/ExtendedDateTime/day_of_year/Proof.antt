@@ -3,7 +3,7 @@ use Prim.Native.Nat.{_-_}
 use mathlib.Core.Path.{_≡_}
 use native.Mathlib.Omega.{arith}
 use borrow.Author.Needs.{needs}
-use Rattle.extended.proofs.Counting.{months-bound}
+use Rattle.calendar.proofs.Counting.{months-bound}
 use Rattle.extended.proofs.Outcomes.{passed, refused-by}
 use Rattle.extended.proofs.Records.{facts, record-proper}
 use Rattle.extended.specs.Extended.{dayOfYear, test}

@@ -6,7 +6,7 @@ use mir.Syntax.{w32, w64}
 use mir.Val.{SFits}
 use mir.Facts.{toZ-ofZ}
 use borrow.Author.Needs.{needs}
-use Rattle.extended.proofs.Counting.{day-bound, month-bound}
+use Rattle.calendar.proofs.Counting.{day-bound, month-bound}
 use Rattle.extended.proofs.Records.{facts}
 use Rattle.extended.specs.Extended.{clockSeconds, moment}
 use Rattle.extended.proofs.ExtendedDateTime.moment.Statement.{statement}

@@ -2,10 +2,11 @@
 use mathlib.Core.Path.{_≡_}
 use native.Mathlib.Omega.{arith}
 use borrow.Author.Needs.{needs}
-use Rattle.extended.proofs.Counting.{day-bound, weekday-closed}
+use Rattle.calendar.proofs.Counting.{day-bound, weekday-closed}
 use Rattle.extended.proofs.Outcomes.{passed, refused-by}
 use Rattle.extended.proofs.Records.{record-proper}
-use Rattle.extended.specs.Calendar.{dayNumber, mondayWeekday}
+use Rattle.calendar.specs.Calendar.{dayNumber}
+use Rattle.extended.specs.Calendar.{mondayWeekday}
 use Rattle.extended.specs.Extended.{test, weekdayMonday0}
 use Rattle.extended.specs.Outcome.{accepted}
 use Rattle.extended.proofs.ExtendedDateTime.weekday_monday0.Statement.{statement}

@@ -2,10 +2,11 @@
 use mathlib.Core.Path.{_≡_}
 use native.Mathlib.Omega.{arith}
 use borrow.Author.Needs.{needs}
-use Rattle.extended.proofs.Counting.{day-bound, weekday-closed}
+use Rattle.calendar.proofs.Counting.{day-bound, weekday-closed}
 use Rattle.extended.proofs.Outcomes.{passed, refused-by}
 use Rattle.extended.proofs.Records.{record-proper}
-use Rattle.extended.specs.Calendar.{dayNumber, sundayWeekday}
+use Rattle.calendar.specs.Calendar.{dayNumber}
+use Rattle.extended.specs.Calendar.{sundayWeekday}
 use Rattle.extended.specs.Extended.{test, weekdaySunday0}
 use Rattle.extended.specs.Outcome.{accepted}
 use Rattle.extended.proofs.ExtendedDateTime.weekday_sunday0.Statement.{statement}

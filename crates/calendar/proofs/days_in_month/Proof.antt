@@ -1,4 +1,4 @@
--- `extended::days_in_month` meets its contract: the table's entry, and one more in February of a leap year. Assumes nothing.
+-- `calendar::days_in_month` meets its contract: the table's entry, and one more in February of a leap year. Assumes nothing.
 use Prim.Native.Nat.{_+_, _-_, _≤_, ℕ}
 use mathlib.Core.Path.{_≡_, ap, refl, sym}
 use mathlib.Core.Bool.{Bool, _&&_, cond, false, true}
@@ -8,11 +8,11 @@ use lib.Dec.{eqb}
 use lib.ListN.{getD}
 use borrow.Author.Needs.{needs}
 use borrow.Author.Tests.{eqb-true}
-use Rattle.extended.proofs.Counting.{byte-small, month-at, month-beyond, month-zero, table-bounds}
-use Rattle.extended.specs.Calendar.{leap, monthDays, monthTable}
+use Rattle.calendar.proofs.Counting.{byte-small, month-at, month-beyond, month-zero, table-bounds}
+use Rattle.calendar.specs.Calendar.{leap, monthDays, monthTable}
 use mir.Val.{boolByte}
-use Rattle.extended.proofs.days_in_month.Statement.{statement}
-use Rattle.extended.proofs.days_in_month.Tie as tie
+use Rattle.calendar.proofs.days_in_month.Statement.{statement}
+use Rattle.calendar.proofs.days_in_month.Tie as tie
 
 entry-small : (m : ℕ) → 1 ≤ m → m ≤ 12 → getD monthTable (m - 1) 0 ≤ 31
 entry-small m h k = rw (month-at m h) at (table-bounds m h k .1)

@@ -1,9 +1,9 @@
--- `extended::days_before_year` meets its contract by the closed form. Assumes nothing.
+-- `calendar::days_before_year` meets its contract by the closed form. Assumes nothing.
 use native.Mathlib.Omega.{arith}
 use borrow.Author.Needs.{needs}
-use Rattle.extended.proofs.Counting.{centuries, closed-form}
-use Rattle.extended.proofs.days_before_year.Statement.{statement}
-use Rattle.extended.proofs.days_before_year.Tie as tie
+use Rattle.calendar.proofs.Counting.{centuries, closed-form}
+use Rattle.calendar.proofs.days_before_year.Statement.{statement}
+use Rattle.calendar.proofs.days_before_year.Tie as tie
 
 add-centuries : tie.Need-add-centuries
 add-centuries c = search needs

@@ -1,4 +1,4 @@
--- `extended::year_in_block` meets its contract: the quotient by 366 is the year or the one before it. Assumes nothing.
+-- `calendar::year_in_block` meets its contract: the quotient by 366 is the year or the one before it. Assumes nothing.
 use Prim.Native.Nat.{_+_, _/_, _<_, _≤_, ℕ}
 use mathlib.Core.Path.{_≡_, ap, refl}
 use mathlib.Core.Bool.{Bool, false, true}
@@ -6,11 +6,11 @@ use native.Mathlib.Omega.{arith}
 use lib.Dec.{leb}
 use borrow.Author.Needs.{needs}
 use borrow.Author.Tests.{leb-false, leb-true}
-use Rattle.extended.proofs.Counting.{block-years, byte-small, two-years, year-lt, years-bound}
-use Rattle.extended.specs.Calendar.{daysBeforeYear}
+use Rattle.calendar.proofs.Counting.{block-years, byte-small, two-years, year-lt, years-bound}
+use Rattle.calendar.specs.Calendar.{daysBeforeYear}
 use mir.Val.{boolByte}
-use Rattle.extended.proofs.year_in_block.Statement.{statement}
-use Rattle.extended.proofs.year_in_block.Tie as tie
+use Rattle.calendar.proofs.year_in_block.Statement.{statement}
+use Rattle.calendar.proofs.year_in_block.Tie as tie
 
 found : (d n : ℕ) → d < 146097 → n ≡ daysBeforeYear (d / 366 + 1) → (t : Bool) → leb n d ≡ t →
     (daysBeforeYear (d / 366 + boolByte t) ≤ d) × (d < daysBeforeYear (d / 366 + boolByte t + 1))

@@ -1,13 +1,13 @@
--- `extended::civil_from_days` meets its contract: block, year and month leave a day within the month, and the date they make
+-- `calendar::civil_from_days` meets its contract: block, year and month leave a day within the month, and the date they make
 -- counts to the day number. Assumes nothing.
 use Prim.Native.Nat.{_*_, _+_, _-_, _/_}
 use native.Mathlib.Omega.{arith}
 use borrow.Author.Needs.{needs}
-use Rattle.extended.proofs.Counting.{blocks, months-block, months-step, year-step}
-use Rattle.extended.proofs.Dates.{the-date}
-use Rattle.extended.specs.Calendar.{dayNumber}
-use Rattle.extended.proofs.civil_from_days.Statement.{statement}
-use Rattle.extended.proofs.civil_from_days.Tie as tie
+use Rattle.calendar.proofs.Counting.{blocks, months-block, months-step, year-step}
+use Rattle.calendar.proofs.Dates.{the-date}
+use Rattle.calendar.specs.Calendar.{dayNumber}
+use Rattle.calendar.proofs.civil_from_days.Statement.{statement}
+use Rattle.calendar.proofs.civil_from_days.Tie as tie
 
 cast-day-of-block : tie.Need-cast-day-of-block
 cast-day-of-block c = search needs

@@ -1,10 +1,10 @@
--- `extended::date_in_year` meets its contract: the months lie on a line. Assumes nothing.
+-- `calendar::date_in_year` meets its contract: the months lie on a line. Assumes nothing.
 use native.Mathlib.Omega.{arith}
 use borrow.Author.Needs.{needs}
-use Rattle.extended.proofs.Counting.{LineDate, byte-small, line-date}
+use Rattle.calendar.proofs.Counting.{LineDate, byte-small, line-date}
 use mir.Val.{boolByte}
-use Rattle.extended.proofs.date_in_year.Statement.{statement}
-use Rattle.extended.proofs.date_in_year.Tie as tie
+use Rattle.calendar.proofs.date_in_year.Statement.{statement}
+use Rattle.calendar.proofs.date_in_year.Tie as tie
 
 found : (c : tie.After-is-leap-year) → let a = c .before .args in LineDate (c .is-leap-year .result) (a .year) (a .day)
 found c = let a = c .before .args in line-date (c .is-leap-year .result) (a .year) (a .day) (c .is-leap-year .ensures) (c .before .pre)

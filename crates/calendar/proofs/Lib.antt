@@ -1,0 +1,3 @@
+-- The laws of the crate `calendar`.
+pub mod Counting
+pub mod Dates
