@@ -81,6 +81,13 @@ struct seqtullo_written {
 /* Reads a text under a base: what the text leaves out is the base's. */
 struct seqtullo_answer seqtullo_read_text(const uint8_t *text, size_t text_length, struct seqtullo_record base);
 
+/* Reads a packet under a base: items that arrive already split, little-endian. Header: item count, place of the items (8), digit count, place
+   of the digits (8 + 28 * items), two bytes each. Item, 28 bytes: 0 kind (1 date, 2 time, 3 both, 4 weekday, 5 zone, 6 local zone, 7 relative,
+   8 pure), 1 weekday from Monday 0 or unit 1 years to 6 seconds, 2 month, 3 day, 4-7 year, 8 hour, 9 minute, 10 second, 11 flags (1 year given,
+   2 time offset given, 4 offset negative), 12-15 nanosecond, 16 offset hours, 17 offset minutes, 18-19 digits of a pure number, 20-27 signed
+   amount; what the kind does not use is 0. Then the digits of the pure numbers, in order, to the end. */
+struct seqtullo_answer seqtullo_read_packet(const uint8_t *packet, size_t packet_length, struct seqtullo_record base);
+
 /* Writes the record's text, as `2024-03-13 09:30:00.000000000+00:00`, to the front of `out`: 35 to 41 bytes; those behind it stay. Read
    under any base the text is the record again, and with ` +N seconds` or ` -N seconds` behind it the record N seconds away. */
 struct seqtullo_written seqtullo_write(struct seqtullo_record record, uint8_t *out, size_t out_length);

@@ -10,7 +10,10 @@
 //! # Ok::<(), seqtullo::Refusal>(())
 //! ```
 
+mod packet;
 mod raw;
+
+pub use packet::{Clock, Day, PacketBuilder, Unit, Zone};
 
 use std::error::Error;
 use std::fmt;
@@ -103,6 +106,13 @@ pub fn read_text(text: impl AsRef<[u8]>, base: Record) -> Result<Record, Refusal
     let text = text.as_ref();
     // The pointer and the length are those of one slice, which is only read.
     record(unsafe { raw::seqtullo_read_text(text.as_ptr(), text.len(), base) })
+}
+
+/// Reads a packet under a base. [`PacketBuilder`] makes one.
+pub fn read_packet(packet: impl AsRef<[u8]>, base: Record) -> Result<Record, Refusal> {
+    let packet = packet.as_ref();
+    // The pointer and the length are those of one slice, which is only read.
+    record(unsafe { raw::seqtullo_read_packet(packet.as_ptr(), packet.len(), base) })
 }
 
 /// The days of a month, 0 for a month outside 1 to 12.
@@ -229,6 +239,41 @@ mod tests {
                 let earlier = read_text(format!("{text} -{n} seconds"), base());
                 assert_eq!(earlier, Record::from_unix_seconds(seconds - n, 999_999_999, offset));
             }
+        }
+    }
+
+    fn built(packet: &PacketBuilder) -> String {
+        match read_packet(packet.bytes(), base()) {
+            Ok(r) => r.write().unwrap().to_string(),
+            Err(refusal) => refusal.to_string(),
+        }
+    }
+
+    #[test]
+    fn packets() {
+        assert_eq!(built(&PacketBuilder::new()), "2024-03-13 09:30:00.000000000+00:00");
+        assert_eq!(built(PacketBuilder::new().date(Some(2023), 1, 31).relative(Unit::Months, 1)), "2023-03-03 00:00:00.000000000+00:00");
+        assert_eq!(built(PacketBuilder::new().time(Clock::at(10, 0).offset(Zone::east(2, 0))).relative(Unit::Hours, 1)), "2024-03-13 11:00:00.000000000+02:00");
+        assert_eq!(built(PacketBuilder::new().date_time(None, 2, 29, Clock::at(7, 5))), "2024-02-29 07:05:00.000000000+00:00");
+        assert_eq!(built(PacketBuilder::new().weekday(Day::Monday, -1)), "2024-03-11 00:00:00.000000000+00:00");
+        assert_eq!(built(PacketBuilder::new().zone(Zone::east(25, 0))), "2024-03-12 22:00:00.000000000+23:00");
+        assert_eq!(built(PacketBuilder::new().zone(Zone::west(2, 30))), "2024-03-13 00:00:00.000000000-02:30");
+        assert_eq!(built(PacketBuilder::new().local_zone().relative(Unit::Days, 0)), "2024-03-13 09:30:00.000000000+00:00");
+        assert_eq!(built(PacketBuilder::new().seconds(-2, 500_000_000)), "2024-03-13 09:29:58.500000000+00:00");
+        assert_eq!(built(PacketBuilder::new().date(None, 3, 5).pure("2023").pure("10")), "2023-03-05 10:00:00.000000000+00:00");
+        assert_eq!(built(PacketBuilder::new().date(None, 3, 5).date(None, 3, 5)), "twice at item 1");
+        assert_eq!(built(PacketBuilder::new().pure("10").pure("1x")), "packet at item 1");
+        assert_eq!(built(PacketBuilder::new().pure("")), "packet at item 0");
+        let mut many = PacketBuilder::new();
+        for _ in 0..65 {
+            many.relative(Unit::Days, 1);
+        }
+        assert_eq!(built(&many), "oversize");
+        let mut long = PacketBuilder::new();
+        long.date(None, 3, 5);
+        let bytes = long.bytes();
+        for n in 0..bytes.len() {
+            assert_eq!(read_packet(&bytes[..n], base()), Err(Refusal { number: 5, place: 0 }));
         }
     }
 
