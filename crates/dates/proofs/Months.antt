@@ -10,8 +10,7 @@ use lib.ListN.{length, getD}
 use lib.Seq.{slice}
 use Rattle.primitive.specs.Answer.{Answer, matched, none}
 use Rattle.primitive.specs.Text.{lower, lowered, bytes}
-use Rattle.primitive.specs.Primitive.{same, named, words, index, u8Answer}
-use Rattle.primitive.specs.declared.ReadU8.{ReadU8}
+use Rattle.primitive.specs.Primitive.{same, named, index}
 use Rattle.primitive.proofs.Lowered.{slice-first, slice-beyond, slice-over}
 use Rattle.primitive.proofs.Tables.{keys, values, named-at}
 use Rattle.dates.specs.Date.{months, month-in}

@@ -9,9 +9,9 @@ use native.Mathlib.Decide.{decLt}
 use lib.Dec.{leb, eqb}
 use lib.ListN.{length, getD, drop, List·getD-eq-default}
 use lib.Seq.{getD-drop, drop-drop}
-use Rattle.primitive.specs.Answer.{Answer, matched, none, stop, if, andThen}
+use Rattle.primitive.specs.Answer.{Answer, matched, none, stop, if}
 use Rattle.primitive.specs.Text.{lower, lowered, blank, digit, letter, run, past, some, starts, tag}
-use Rattle.primitive.specs.Primitive.{parse-uint, dec-uint-str, dec-uint, alpha1, ignored, behind, skip, space}
+use Rattle.primitive.specs.Primitive.{dec-uint-str, dec-uint, alpha1, ignored, behind, skip, space}
 use Rattle.primitive.proofs.Forward.{past-onward}
 use Rattle.primitive.proofs.Spaces.{ignored-behind, ignored-end, space-above}
 use Rattle.primitive.proofs.Lowered.{clash, getD-lowered, beyond, digit-lower}

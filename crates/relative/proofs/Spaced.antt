@@ -6,10 +6,9 @@ use mathlib.Core.Bool.{Bool, false}
 use lib.IntN.{ℤ, pos}
 use Rattle.primitive.specs.Answer.{Answer, matched, none, stop, andThen, orElse}
 use Rattle.primitive.specs.Primitive.{sign, space, plus-or-minus}
-use Rattle.primitive.specs.Ordinal.{signed-number, text-ordinal, number-ordinal, ordinal}
+use Rattle.primitive.specs.Ordinal.{text-ordinal, number-ordinal, ordinal}
 use Rattle.primitive.proofs.Fronts.{space-again}
 use Rattle.relative.specs.Relative.{signed-seconds, seconds, displaced, displacement, parse}
-use Rattle.relative.specs.declared.Relative.{Relative}
 
 module _ (text : List ℕ) (at : ℕ) where
   seconds-behind : seconds text (space text at) ≡ seconds text at
