@@ -1,0 +1,3 @@
+-- The theorems of the crate `packets`.
+pub mod Bytes
+pub mod Back

@@ -1,0 +1,2 @@
+-- The definitions of the crate `packets`.
+pub mod Writing
