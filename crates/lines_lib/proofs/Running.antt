@@ -102,13 +102,16 @@ module _ (room : ℕ) (enough : 44 ≤ room) where
     by (fine base) e = (_, begin h e (printing room base enough reads (drop (suc (lineLength held)) held) .1))
     by (refusal n at) e = (_, refuse h e)
 
+  closing : (held : List ℕ) → lineLength held ≡ length held → 0 < length held → (text : List ℕ) × Begins room held [] text
+  closing held u g =
+      let line = take 4097 held in
+      let e = ended-length line (unended-take 4097 held u) in
+      let h : lineLength (line ++ (10 ∷ [])) < length (line ++ (10 ∷ [])) = omega (arith, length-append line (10 ∷ [])) in
+      (_, close-first u g (with-line [] (line ++ (10 ∷ [])) h .1))
+
   without-line : (held : List ℕ) → lineLength held ≡ length held → (text : List ℕ) × Begins room held [] text
   without-line [] u = (_, nothing)
-  without-line (b ∷ s) u =
-      let line = take 4097 (b ∷ s) in
-      let e = ended-length line (unended-take 4097 (b ∷ s) u) in
-      let h : lineLength (line ++ (10 ∷ [])) < length (line ++ (10 ∷ [])) = omega (arith, length-append line (10 ∷ [])) in
-      (_, close-first u (omega arith) (with-line [] (line ++ (10 ∷ [])) h .1))
+  without-line (b ∷ s) u = closing (b ∷ s) u (omega arith)
 
   pub beginning : (reads : List (List ℕ)) (held : List ℕ) → (text : List ℕ) × Begins room held reads text
   beginning [] held = by (ltb (lineLength held) (length held)) refl where
