@@ -1,2 +1,2 @@
 -- Laws of the counted calendar, which the crate `calendar` has. Assumes nothing.
-pub use Rattle.calendar.proofs.Counting.{and-left, month-bound, month-zero, month-beyond}
+pub use Rattle.calendar.proofs.Counting.{and-left, and-right, each, month-zero, month-beyond, month-bounds, month-bound, day-bound}

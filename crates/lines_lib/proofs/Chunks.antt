@@ -53,7 +53,7 @@ laterOf : List (List ℕ) → List (List ℕ)
 laterOf [] = []
 laterOf (line ∷ later) = later
 
-unended-later : (b : ℕ) (s : List ℕ) → lineLength (b ∷ s) ≡ length (b ∷ s) → (eqb b 10 ≡ false) × (lineLength s ≡ length s)
+pub unended-later : (b : ℕ) (s : List ℕ) → lineLength (b ∷ s) ≡ length (b ∷ s) → (eqb b 10 ≡ false) × (lineLength s ≡ length s)
 unfolding lineLength
 unended-later b s h = by (eqb b 10) h where
   by : (t : Bool) → if t 0 (suc (lineLength s)) ≡ suc (length s) → (t ≡ false) × (lineLength s ≡ length s)
@@ -76,7 +76,7 @@ lines-unended (b ∷ a ∷ s) more h g =
     let i = lines-unended (a ∷ s) more (e .1) (omega arith) in
     rw (e .0) (ap (inFront b) i)
 
-unended-take : (n : ℕ) (line : List ℕ) → lineLength line ≡ length line → lineLength (take n line) ≡ length (take n line)
+pub unended-take : (n : ℕ) (line : List ℕ) → lineLength line ≡ length line → lineLength (take n line) ≡ length (take n line)
 unfolding lineLength
 unended-take zero line h = refl
 unended-take (suc n) [] h = refl

@@ -7,4 +7,5 @@ pub mod Answering
 pub mod Keeping
 pub mod Chunks
 pub mod Turns
+pub mod Running
 pub mod Examples
