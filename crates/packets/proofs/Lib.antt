@@ -1,3 +1,4 @@
 -- The theorems of the crate `packets`.
 pub mod Bytes
 pub mod Back
+pub mod Theorems
