@@ -20,13 +20,15 @@ extern "C" {
 
 /* The answers by number. */
 enum {
-    SEQTULLO_OVERSIZE = 1,    /* a text over 4096 bytes, or a 65th item */
+    SEQTULLO_OVERSIZE = 1,    /* a text over 4096 bytes, a 65th item, or a packet's item count above 64 */
     SEQTULLO_FOREIGN = 2,     /* a byte of 128 or more; place: the index of the first */
     SEQTULLO_UNREAD = 3,      /* no reader matches; place: where the item before ended */
     SEQTULLO_STOPPED = 4,     /* a reader stops; place: where the item before ended */
-    SEQTULLO_TWICE = 6,       /* date, time or zone again; place: the item's index */
+    SEQTULLO_PACKET = 5,      /* a packet rule broken; place: the item's index, the item count for digits left over, 0 in the header */
+    SEQTULLO_TWICE = 6,       /* date, time, weekday or zone again; place: the item's index */
     SEQTULLO_RIVAL = 7,       /* a time with an offset beside a zone; place: the item's index */
-    SEQTULLO_OVER = 9,        /* year above 2147485547 */
+    SEQTULLO_PURE = 8,        /* a pure number that is no hour and minute; place: the item's index */
+    SEQTULLO_OVER = 9,        /* year above 2147485547, or a pure year that no u32 holds */
     SEQTULLO_UNDER = 10,      /* year below 0, or one that no u32 holds */
     SEQTULLO_MONTH = 11,      /* out of range, as the five below */
     SEQTULLO_DAY = 12,
@@ -35,7 +37,7 @@ enum {
     SEQTULLO_SECOND = 15,
     SEQTULLO_NANOSECOND = 16,
     SEQTULLO_OFFSET = 17,     /* beyond 86400 seconds either way */
-    SEQTULLO_SUM = 18,        /* a sum or product that leaves an i64, or nanoseconds that leave a u32 */
+    SEQTULLO_SUM = 18,        /* a sum or product that leaves an i64, nanoseconds that leave a u32, or weeks to a weekday that leave an i32 */
     SEQTULLO_SHORT = 19,      /* the place to write to is shorter than the text */
     SEQTULLO_SEAM = 20        /* the offset is not whole minutes, on writing */
 };

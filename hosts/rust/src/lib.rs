@@ -9,6 +9,23 @@
 //! assert_eq!(refusal.to_string(), "unread at byte 5");
 //! # Ok::<(), seqtullo::Refusal>(())
 //! ```
+//!
+//! Items that a host already has come as a packet. Weekdays, zones and pure numbers are read from packets alone.
+//!
+//! ```
+//! use seqtullo::{Clock, Day, PacketBuilder, Record, Zone};
+//!
+//! let base = Record::new(2024, 3, 13, 9, 30, 0, 0, 0)?;
+//! let mut packet = PacketBuilder::new();
+//! packet.weekday(Day::Monday, 1).time(Clock::at(7, 5).offset(Zone::east(2, 0)));
+//! let end = seqtullo::read_packet(packet.bytes(), base)?;
+//! assert_eq!(end.write()?.as_str(), "2024-03-18 07:05:00.000000000+02:00");
+//!
+//! packet.local_zone();
+//! let refusal = seqtullo::read_packet(packet.bytes(), base).unwrap_err();
+//! assert_eq!(refusal.to_string(), "twice at item 2");
+//! # Ok::<(), seqtullo::Refusal>(())
+//! ```
 
 mod packet;
 mod raw;
