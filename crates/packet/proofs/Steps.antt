@@ -66,20 +66,26 @@ last-test false n h k = absurd (omega arith)
 
 module _ (s : List ℕ) (h : number (header s) ≤ 0) where
   opened :
-      (leb (little 2 0 s) 64 ≡ true) × (eqb (length s) (8 + 28 * little 2 0 s + little 2 4 s) ≡ true)
+      (leb 8 (length s) ≡ true) × (leb (little 2 0 s) 64 ≡ true) × (eqb (little 2 2 s) 8 ≡ true) × (eqb (little 2 6 s) (8 + 28 * little 2 0 s) ≡ true) × (eqb (length s) (8 + 28 * little 2 0 s + little 2 4 s) ≡ true)
   unfolding header count digitsPlace
   opened =
       let a = first-test (leb 8 (length s)) 5 _ (omega arith) h in
       let b = first-test (leb (little 2 0 s) 64) 1 _ (omega arith) (a .1) in
       let c = first-test (eqb (little 2 2 s) 8) 5 _ (omega arith) (b .1) in
       let d = first-test (eqb (little 2 6 s) (8 + 28 * little 2 0 s)) 5 _ (omega arith) (c .1) in
-      (b .0, last-test (eqb (length s) (8 + 28 * little 2 0 s + little 2 4 s)) 5 (omega arith) (d .1))
+      (a .0, b .0, c .0, d .0, last-test (eqb (length s) (8 + 28 * little 2 0 s + little 2 4 s)) 5 (omega arith) (d .1))
 
   pub few : little 2 0 s ≤ 64
-  few = leb-true (little 2 0 s) 64 (opened .0)
+  few = leb-true (little 2 0 s) 64 (opened .1)
+
+  pub items-at : little 2 2 s ≡ 8
+  items-at = eqb-true (little 2 2 s) 8 (opened .2)
+
+  pub digits-at : little 2 6 s ≡ 8 + 28 * little 2 0 s
+  digits-at = eqb-true (little 2 6 s) (8 + 28 * little 2 0 s) (opened .3)
 
   pub exact : length s ≡ 8 + 28 * little 2 0 s + little 2 4 s
-  exact = eqb-true (length s) (8 + 28 * little 2 0 s + little 2 4 s) (opened .1)
+  exact = eqb-true (length s) (8 + 28 * little 2 0 s + little 2 4 s) (opened .4)
 
 -- ---- one item
 

@@ -2,3 +2,4 @@
 pub mod Bytes
 pub mod Back
 pub mod Theorems
+pub mod Exact

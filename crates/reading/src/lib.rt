@@ -7,7 +7,7 @@ use items::ReadItem;
 use relative::Relative;
 use rules::RelativePlace;
 ghost use mathlib.Core.Path.{_≡_};
-ghost use Rattle.primitive.specs.Text.{lowered};
+ghost use Rattle.primitive.specs.Text.{lower, lowered};
 ghost use Rattle.builder.specs.Building.{builtOf};
 ghost use Rattle.reading.specs.Reading.{ascii, asciiEnd, buildText, readText};
 
@@ -37,7 +37,7 @@ fn ascii_end(text: &[u8]) -> usize
 {
     let mut i = 0;
     while i < text.len() {
-        if is_ascii(primitive::to_lower(text[i])) {
+        if is_ascii(text[i]) {
             i += 1;
         } else {
             return i;
@@ -46,8 +46,9 @@ fn ascii_end(text: &[u8]) -> usize
     i
 }
 
+// Whether the byte in lower case is below 128: exactly where it is so itself.
 fn is_ascii(byte: u8) -> bool
-    ensures { λ r. ⌜ r ≡ ascii byte ⌝ }
+    ensures { λ r. ⌜ r ≡ ascii (lower byte) ⌝ }
 {
     if byte < 128 {
         return true;

@@ -18,11 +18,8 @@ loop-holds : tie.Need-loop-holds Inv-loop μ-loop
 unfolding asciiEnd
 loop-holds c = refl
 
-shared-slice-read-to-lower : tie.Need-shared-slice-read-to-lower Inv-loop μ-loop
-shared-slice-read-to-lower c = search runs
-
-to-lower-requires : tie.Need-to-lower-requires Inv-loop μ-loop
-to-lower-requires c κs = search runs
+shared-slice-read-is-ascii : tie.Need-shared-slice-read-is-ascii Inv-loop μ-loop
+shared-slice-read-is-ascii c = search runs
 
 is-ascii-requires : tie.Need-is-ascii-requires Inv-loop μ-loop
 is-ascii-requires c κs = search runs
@@ -52,8 +49,7 @@ ascii-end-spec =
     Inv-loop
     μ-loop
     loop-holds
-    shared-slice-read-to-lower
-    to-lower-requires
+    shared-slice-read-is-ascii
     is-ascii-requires
     add-i
     loop-less
