@@ -1,5 +1,5 @@
--- `packet::packet_item` meets its contract: a walk of its MIR, by hand. A `Packet` that one call returns is held in a local and passed to the current. All that the proof knows of `new` and of `next` is that each meets its contract.
--- The machine value that `new` returns is stored and passed on as it is. In a local of a body MIR erases the lifetime of the struct's type, so the value is shown to have the type at `erased`: what the struct owns does not say the lifetime's name.
+-- `packet_item` makes the struct and reads its current item, walked step by step, since a local keeps a reference. Of the two functions that it
+-- calls only their contracts are used. A local's type has no lifetime of its own in the code, so the struct is shown to have that type too.
 -- Assumes nothing.
 use mathlib.Core.Path.{_≡_, refl, ap, _∙_}
 use Prim.Native.Nat.{ℕ, _<_, _^_}
@@ -57,7 +57,7 @@ use Rattle.packet.proofs.packet_item as packet-item
 use Rattle.packet.proofs.packet_item.Statement as stated
 use Rattle.packet.proofs.packet_item.Code as code
 
--- the struct's type, over the signature's lifetimes
+-- the struct under the lifetimes of the signature
 abbrev B : Lfts 1 → RattleType
 B κs = T.the-row (namedLft 1 0 tt κs)
 
@@ -65,7 +65,7 @@ abbrev stayed : Stays (packet-item.ended .signature .params) (packet-item.ended 
 stayed = (stay-none-slice (0 ∷ []) tt (plain (λ _. u8)) yes, (stay-none (λ _. u32) yes, tt))
 
 module _ {M : Type 1} (𝓤 : URA M) (H : Heap 𝓤) (A : Atoms 𝓤) (mem : Memory → SProp 𝓤) (run : Routine → Fun 𝓤) where
-  -- the contracts that the proof cites
+  -- what the two functions promise
   abbrev New : Contract 𝓤
   New = tripleOf 𝓤 H A at-index.signature (at-index.spec 𝓤 H A mem run)
 
@@ -73,14 +73,14 @@ module _ {M : Type 1} (𝓤 : URA M) (H : Heap 𝓤) (A : Atoms 𝓤) (mem : Mem
   Next = tripleOf 𝓤 H A current.signature (current.spec 𝓤 H A mem run)
 
 module _ {M : Type 1} (𝓤 : URA M) (H : Heap 𝓤) (A : Atoms 𝓤) (W : Given 𝓤 H A) (mem : Memory → SProp 𝓤) (run : Routine → Fun 𝓤) (κ : Lft) (q : Share) (s : RefT (List ℕ)) (n : ℕ) (ok : n < 2 ^ 32) where
-  -- the machine value that s has
+  -- the slice as the machine holds it
   abbrev v : Val
   v = sliceVal (s .ptr) (length (s .now))
 
   abbrev found : Fields
   found = fieldsAt (now s) n
 
-  -- the struct's type as a local of a body has it
+  -- the struct as a local has it
   abbrev αᵉ : NamedLft
   αᵉ = record { mir = erased; lft = κ }
 
@@ -90,7 +90,7 @@ module _ {M : Type 1} (𝓤 : URA M) (H : Heap 𝓤) (A : Atoms 𝓤) (W : Given
   abbrev Own : Fml
   Own = ShrSlice (named 0) κ u8 .own s (v ∷ [])
 
-  -- the call of `new`: what it is passed, what it asks, and what is known of its result
+  -- the call of `at_index`: its arguments, what it asks, what its answer is
   abbrev to-new : New 𝓤 H A mem run .Ghost
   to-new = (((κ, tt), (q, tt), tt, (s, (n, tt)), (v ∷ [], (vint w32 n ∷ [], tt))), tt)
 
@@ -103,7 +103,7 @@ module _ {M : Type 1} (𝓤 : URA M) (H : Heap 𝓤) (A : Atoms 𝓤) (W : Given
   new-said : (r : Packet) → ent 𝓤 (ensured 𝓤 H A at-index.ended (at-index.clauses 𝓤 H A mem run) (κ, tt) (s, (n, tt)) tt r) (fact 𝓤 ((r .bytes ≡ s) × (r .index ≡ n)))
   new-said r = exE 𝓤 _ (λ ws. snd∗ 𝓤 (sem 𝓤 H A (lasts at-index.ended (κ, tt) (s, (n, tt)) ws)) (fact 𝓤 ((r .bytes ≡ s) × (r .index ≡ n))))
 
-  -- the call of `next`, at the struct r with the machine value u
+  -- the call of `current` on the struct r, which the machine holds as u
   abbrev to-next : Packet → Val → Next 𝓤 H A mem run .Ghost
   to-next r u = (((κ, tt), (q, tt), tt, (r, tt), (u ∷ [], tt)), tt)
 
@@ -128,14 +128,14 @@ module _ {M : Type 1} (𝓤 : URA M) (H : Heap 𝓤) (A : Atoms 𝓤) (W : Given
         calls-at ! fm (New 𝓤 H A mem run) known-new to-new (and-then ! (load ! (from ! (stop !)) (look ! 6 refl)) (and-then ! (load ! (from ! (stop !)) (look ! 4 refl)) (no-more !))) (λ u.
         use1 W (later (some (λ (r : Packet). ((‵ (flft κ q) ⊛ ‵ ftrue) ⊛ ‵ (B (κ, tt) .own r (u ∷ []))) ⊛ raw (ensured 𝓤 H A at-index.ended (at-index.clauses 𝓤 H A mem run) (κ, tt) (s, (n, tt)) tt r)))) (id⊢ 𝓤 _) $ await ! tt $ pick ! (λ r.
         split ! $ move ! (1 ∷ []) $ use1 W (raw (fact 𝓤 ((r .bytes ≡ s) × (r .index ≡ n)))) (new-said r) $ heard ! ((r .bytes ≡ s) × (r .index ≡ n)) (λ e. split ! $ move ! (1 ∷ []) $
-        -- [what the struct owns; the token; what s owns; room for _2; …; _1; …; room for _0; …]
+        -- in hand: the struct, the token, the slice, and the places of the locals
         peeks ! (B (κ, tt)) (Is (B (κ, tt))) (shows 𝓤 H A (B (κ, tt))) r (u ∷ []) (λ is.
         land ! (from ! (stop !)) (init ! 3 refl (LL.lawful (T.the-type αᵉ) (T′.the-laws αᵉ) 𝓤 H A W .typed r _ is .0)) $
         use2 W (raw (Next 𝓤 H A mem run .pre (to-next r u))) (goes-next r u) $
         calls-at ! fm (Next 𝓤 H A mem run) known-next (to-next r u) (and-then ! (load ! (from ! (stop !)) (look ! 2 refl)) (no-more !)) (λ u′.
         use1 W (later (some (λ (t : Fields). ((‵ (flft κ q) ⊛ ‵ ftrue) ⊛ ‵ (S.the-row .own t (u′ ∷ []))) ⊛ raw (ensured 𝓤 H A current.ended (current.clauses 𝓤 H A mem run) (κ, tt) (r, tt) tt t)))) (id⊢ 𝓤 _) $ await ! tt $ pick ! (λ t.
         split ! $ move ! (1 ∷ []) $ use1 W (raw (fact 𝓤 (t ≡ fieldsAt (now (r .bytes)) (r .index)))) (next-said r t) $ heard ! (t ≡ fieldsAt (now (r .bytes)) (r .index)) (λ e′. split ! $ move ! (1 ∷ []) $
-        -- [the result; the token; what s owns; _2; …; _1; …; room for _0; …]
+        -- in hand: the answer, the token, the slice, and the places of the locals
         peeks ! S.the-row (Is S.the-row) (shows 𝓤 H A S.the-row) t (u′ ∷ []) (λ is′.
         land ! (from ! (stop !)) (init ! 9 refl (LL.lawful S.the-type S′.the-laws 𝓤 H A W .typed t _ is′ .0)) $
         returns ! (look ! 9 refl) $ forget ! 3 refl $ forget ! 5 refl $ forget ! 7 refl $ forget ! 9 refl $ move ! (9 ∷ 10 ∷ []) $ free1 ! $ move ! (7 ∷ 8 ∷ []) $ free1 ! $ move ! (5 ∷ 6 ∷ []) $ free1 ! $ move ! (3 ∷ 4 ∷ []) $ free1 ! $ free0 ! $
