@@ -41,7 +41,7 @@ signed-back (negsuc n) h =
     let e : 18446744073709551615 - (18446744073709551615 - n) ≡ n = omega arith in
     rw (le-ltb (18446744073709551615 - n) 9223372036854775808 (omega arith), e)
 
-wide : (z : ℤ) → inI32 z ≡ true → inI64 z ≡ true
+pub wide : (z : ℤ) → inI32 z ≡ true → inI64 z ≡ true
 wide (pos n) h = lt-ltb n 9223372036854775808 (omega (arith, leb-true n 2147483647 h))
 wide (negsuc n) h = lt-ltb n 9223372036854775808 (omega (arith, leb-true n 2147483647 (halves (leb n 2147483647) true h .0)))
 
@@ -155,7 +155,7 @@ unfolding itemOf laterKind
 pure-item p used s = rw (← s) refl
 
 -- a pure number's digits begin behind those that are used
-pub placed : ℕ → Item → Type 0
+unfoldable pub placed : ℕ → Item → Type 0
 placed used (item.Pure p) = p .start ≡ used
 placed used (item.Date d) = Unit {0}
 placed used (item.Time t) = Unit {0}

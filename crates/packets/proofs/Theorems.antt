@@ -17,7 +17,8 @@ use Rattle.primitive.proofs.Rows.{all, halves}
 use Rattle.items.specs.declared.Item.{Item}
 use Rattle.items.specs.declared.Item.the-variants as item
 use Rattle.items.specs.declared.Slot.{Slot}
-use Rattle.rules.specs.Placed.{Placed, fine, _>>=_}
+use Rattle.rules.specs.Placed as placing
+use Rattle.rules.specs.Placed.{Placed, fine, _>>=_, _>>_}
 use Rattle.builder.specs.Building.{build}
 use Rattle.fields.specs.Fields.{little, fieldsFrom, fieldsAt, fieldsOf, unpacked, pureInRange, inRange, digitsUsed}
 use Rattle.fields.specs.declared.Fields.{Fields}
@@ -34,7 +35,7 @@ pub record Holds (used : ℕ) (x : Item) : Type 0 where
   pub begins : placed used x
 
 -- items that use up so many digits, in order
-pub InOrder : ℕ → ℕ → List Slot → Type 0
+unfoldable pub InOrder : ℕ → ℕ → List Slot → Type 0
 InOrder all used [] = used ≡ all
 InOrder all used (x ∷ xs) = Holds used (x .item) × (used + digitsUsed (x .item) ≤ all) × InOrder all (used + digitsUsed (x .item)) xs
 
@@ -175,7 +176,7 @@ module _ (xs : List Slot) (area : List ℕ) (few : length xs ≤ 64) (row : all 
   unfolding packetItems count
   packet-read = rw (good-header, area-is, first .0) (all-items l area xs 0 0 row order place-0)
 
-  -- and so it builds under every accepted base what the items build
-  pub packet-builds : (base : ExtendedDateTime) → test base ≡ accepted tt → readPacket l base ≡ build area xs base
+  -- and so it builds under every base what the items build, the base being tested first
+  pub packet-builds : (base : ExtendedDateTime) → readPacket l base ≡ (placing.placed 0 (test base) >> build area xs base)
   unfolding readPacket buildItems count
-  packet-builds base t = rw (t, good-header, area-is, first .0, all-items l area xs 0 0 row order place-0) refl
+  packet-builds base = rw (good-header, area-is, first .0, all-items l area xs 0 0 row order place-0) refl
