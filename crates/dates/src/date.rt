@@ -390,7 +390,7 @@ pub(crate) fn literal_month(s: &[u8], at: usize) -> ReadU8
 }
 
 // The month that the word from `start` up to `end` names. Its first letter tells most names apart.
-fn month_named(s: &[u8], start: usize, end: usize) -> ReadU8
+pub fn month_named(s: &[u8], start: usize, end: usize) -> ReadU8
     ensures { λ r. ⌜ u8Answer r ≡ named months (slice start end (lowered (now (s .entry)))) (lowered (now (s .entry))) end ⌝ }
 {
     if end <= start {

@@ -72,7 +72,7 @@ fn turn(input: &mut [u8], output: &mut [u8], at: Standing) -> Standing {
     }
     let base = at.base;
     let behind = from + line;
-    match reading::read_text(&input[from..behind], base) {
+    match quick::read_text(&input[from..behind], base) {
         Built::Record(base) => Standing {
             base,
             begun: true,

@@ -1,11 +1,11 @@
 -- The laws of the first line's length, and of the lines of a chunk that have ended. Assumes nothing.
 use native.Mathlib.Omega.{arith}
 use borrow.Author.Tests.{eq-eqb, ne-eqb}
-use Prim.Native.Nat.{ℕ, suc, _+_, _<_, _≤_}
-use native.Mathlib.Nat.{add-zero, add-suc, suc-add}
+use Prim.Native.Nat.{ℕ, suc, _+_, _-_, _<_, _≤_}
+use native.Mathlib.Nat.{add-zero, add-suc, suc-add, add-assoc}
 use native.Mathlib.Numerals.{add-one}
 use mathlib.Core.Path.{_≡_, refl}
-use mathlib.Core.Bool.{Bool, true, false}
+use mathlib.Core.Bool.{Bool, true, false, true≢false}
 use mathlib.Core.List.{List, [], _∷_}
 use lib.Dec.{eqb}
 use lib.ListN.{length, take, drop, getD, drop-of-length-le}
@@ -44,8 +44,31 @@ module _ {s : List ℕ} {from i : ℕ} (g : Sought s from i) where
     pub sought-more : (getD s i 0 ≡ 10 → ⊥) → Sought s from (i + 1)
     sought-more e = record { behind = omega arith; inside = omega arith; same = cc (end-more s i h e) }
 
+  -- no line ends in the 16 bytes from i on
+  pub sought-block : 16 ≤ length s - i → lineLength (drop i s) ≡ 16 + lineLength (drop (i + 16) s) → Sought s from (i + 16)
+  sought-block h e = record { behind = omega arith; inside = omega arith; same = omega arith }
+
 pub sought-start : (s : List ℕ) (from : ℕ) → from ≤ length s → Sought s from from
 sought-start s from h = record { behind = omega arith; inside = h; same = refl }
+
+-- ---- a loop that looks for byte 10 in a block of 16 bytes
+-- j bytes of the block are looked at: where none is found, the end of the line that begins with the block is sought from behind them
+pub record Looked (s : List ℕ) (at j : ℕ) (found : Bool) : Type 0 where
+  pub most : j ≤ 16
+  pub unfound : found ≡ false → Sought s at (at + j)
+
+pub looked-start : (s : List ℕ) (at : ℕ) → at + 16 ≤ length s → Looked s at 0 false
+looked-start s at h = record { most = omega arith; unfound = λ _. rw (add-zero at) (sought-start s at (omega arith)) }
+
+module _ {s : List ℕ} {at j : ℕ} {found : Bool} (g : Looked s at j found) where
+  pub looked-found : j < 16 → Looked s at (j + 1) true
+  looked-found h = record { most = omega arith; unfound = λ e. absurd (true≢false e) }
+
+  pub looked-more : at + 16 ≤ length s → j < 16 → (getD s (at + j) 0 ≡ 10 → ⊥) → Looked s at (j + 1) found
+  looked-more l h e = record { most = omega arith; unfound = λ f. rw (← add-assoc) (sought-more (g .unfound f) (omega arith) e) }
+
+  pub looked-all : 16 ≤ j → found ≡ false → lineLength (drop at s) ≡ 16 + lineLength (drop (at + 16) s)
+  looked-all h f = let e : j ≡ 16 = omega arith in let k = rw e at (g .unfound f .same) in omega arith
 
 -- ---- the first line of a chunk, and those behind it
 pub line-inside : (s : List ℕ) → lineLength s ≤ length s

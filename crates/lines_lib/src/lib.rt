@@ -5,6 +5,7 @@ use builder::Built;
 use extended::ExtendedDateTime;
 use writer::Written;
 ghost use mathlib.Core.Path.{_≡_};
+ghost use mathlib.Core.Bool.{false};
 ghost use mathlib.Core.List.{[], _∷_};
 ghost use Prim.Native.Nat.{_+_, _-_, _≤_, _<_, min};
 ghost use lib.ListN.{length, drop};
@@ -22,6 +23,9 @@ pub const LONGEST_ANSWER: usize = 44;
 pub const LONGEST_LINE: usize = 4097;
 
 const NEWLINE: u8 = 10;
+
+// How many bytes are tested at once for the end of a line.
+const BLOCK: usize = 16;
 
 // How far the lines of a chunk are answered: the bytes of the chunk that are taken, the bytes of answers, and whether the answers stopped
 // for want of room.
@@ -117,8 +121,39 @@ pub fn first_line_end(bytes: &[u8]) -> usize
     line_end(bytes, 0)
 }
 
-// Where the line that begins at `from` ends: at a byte 10, or with the bytes.
+// Where the line that begins at `from` ends: at a byte 10, or with the bytes. Goes by blocks of 16 bytes to the one that ends it.
 fn line_end(bytes: &[u8], from: usize) -> usize
+    requires { ⌜ from ≤ length (now bytes) ⌝ }
+    ensures { λ r. ⌜ (r ≡ from + lineLength (drop from (now (bytes .entry)))) × (from ≤ r) × (r ≤ length (now (bytes .entry))) ⌝ }
+{
+    let mut i = from;
+    while BLOCK <= bytes.len() - i {
+        if ends_within(bytes, i) {
+            return line_end_near(bytes, i);
+        }
+        i += BLOCK;
+    }
+    line_end_near(bytes, i)
+}
+
+// Whether a byte 10 is among the 16 bytes from a place on. Looks at each of them, so that the compiler tests them all at once.
+fn ends_within(bytes: &[u8], at: usize) -> bool
+    requires { ⌜ at + 16 ≤ length (now bytes) ⌝ }
+    ensures { λ r. ⌜ (r ≡ false → lineLength (drop at (now (bytes .entry))) ≡ 16 + lineLength (drop (at + 16) (now (bytes .entry)))) ⌝ }
+{
+    let mut found = false;
+    let mut j = 0;
+    while j < BLOCK {
+        if bytes[at + j] == NEWLINE {
+            found = true;
+        }
+        j += 1;
+    }
+    found
+}
+
+// Where the line that begins at `from` ends, sought byte by byte.
+fn line_end_near(bytes: &[u8], from: usize) -> usize
     requires { ⌜ from ≤ length (now bytes) ⌝ }
     ensures { λ r. ⌜ (r ≡ from + lineLength (drop from (now (bytes .entry)))) × (from ≤ r) × (r ≤ length (now (bytes .entry))) ⌝ }
 {
@@ -138,7 +173,7 @@ fn put_line(line: &[u8], base: ExtendedDateTime, out: &mut [u8]) -> usize
     ensures { λ r. ⌜ r ≤ 44 ⌝ }
     ensures { λ r. ⌜ Put (lineAnswer (readText (now (line .entry)) base)) 0 (now (out .entry)) r (now (out .exit)) ⌝ }
 {
-    put_answer(reading::read_text(line, base), out)
+    put_answer(quick::read_text(line, base), out)
 }
 
 // An answer at the front of the lent place; nothing where the place may be too short for one.

@@ -272,7 +272,7 @@ pub(crate) fn dec_u8(s: &[u8], at: usize) -> ReadU8
     ReadU8::Match(v as u8, next)
 }
 
-pub(crate) fn dec_u32(s: &[u8], at: usize) -> ReadU32
+pub fn dec_u32(s: &[u8], at: usize) -> ReadU32
     ensures { λ r. ⌜ u32Answer r ≡ dec-uint 4294967295 (lowered (now (s .entry))) at ⌝ }
 {
     let ReadU64::Match(v, next) = dec_uint(s, at, 4294967295) else {

@@ -213,7 +213,7 @@ fn placed_answer(built: Built) -> Answer
 pub extern "C" fn seqtullo_read_text(text: &[u8], base: Record) -> Answer
     ensures { λ r. ⌜ r ≡ placedAnswer (readText (now (text .entry)) base) ⌝ }
 {
-    placed_answer(reading::read_text(text, base))
+    placed_answer(quick::read_text(text, base))
 }
 
 // Reads a packet under a base.

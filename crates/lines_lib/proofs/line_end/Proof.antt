@@ -1,8 +1,8 @@
--- `lines_lib::line_end` meets its contract: the line's end, sought from i on, is the same at each turn. Assumes nothing.
+-- `lines_lib::line_end` meets its contract: the line's end, sought from i on, is the same behind each block that has no byte 10. Assumes nothing.
 use borrow.Author.Needs.{needs}
 use Prim.Native.Nat.{_-_}
 use lib.ListN.{length}
-use Rattle.lines_lib.proofs.Splitting.{Sought, sought-start, sought-none, sought-here, sought-more}
+use Rattle.lines_lib.proofs.Splitting.{Sought, sought-start, sought-block}
 use Rattle.lines_lib.proofs.line_end.Statement.{statement}
 use Rattle.lines_lib.proofs.line_end.Tie as tie
 
@@ -15,11 +15,17 @@ abbrev μ-loop : tie.MeasureT-loop
 loop-holds : tie.Need-loop-holds Inv-loop μ-loop
 loop-holds c = search (sought-start, needs)
 
-shared-slice-read-if1 : tie.Need-shared-slice-read-if1 Inv-loop μ-loop
-shared-slice-read-if1 c = search needs
+sub-loop : tie.Need-sub-loop Inv-loop μ-loop
+sub-loop c = search needs
+
+ends-within-requires : tie.Need-ends-within-requires Inv-loop μ-loop
+ends-within-requires c κs = search needs
+
+line-end-near-requires : tie.Need-line-end-near-requires Inv-loop μ-loop
+line-end-near-requires c κs = search needs
 
 returns : tie.Need-returns Inv-loop μ-loop
-returns c = search (sought-here, needs)
+returns c = search needs
 
 add-i : tie.Need-add-i Inv-loop μ-loop
 add-i c = search needs
@@ -28,10 +34,13 @@ loop-less : tie.Need-loop-less Inv-loop μ-loop
 loop-less c = search needs
 
 loop-again : tie.Need-loop-again Inv-loop μ-loop
-loop-again c = search (sought-more, needs)
+loop-again c = search (sought-block, c .before .ends-within .ensures, needs)
+
+line-end-near-requires-2 : tie.Need-line-end-near-requires-2 Inv-loop μ-loop
+line-end-near-requires-2 c κs = search needs
 
 returns-2 : tie.Need-returns-2 Inv-loop μ-loop
-returns-2 c = search (sought-none, needs)
+returns-2 c = search needs
 
 pub line-end-spec : {M : Type 1} → statement M
 line-end-spec =
@@ -40,9 +49,12 @@ line-end-spec =
     Inv-loop
     μ-loop
     loop-holds
-    shared-slice-read-if1
+    sub-loop
+    ends-within-requires
+    line-end-near-requires
     returns
     add-i
     loop-less
     loop-again
+    line-end-near-requires-2
     returns-2)

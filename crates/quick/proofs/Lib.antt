@@ -1,0 +1,11 @@
+-- The laws of the crate `quick`.
+pub mod Places
+pub mod DigitRows
+pub mod MonthNames
+pub mod DateTexts
+pub mod ClockForms
+pub mod Found
+pub mod ShiftForms
+pub mod Building
+pub mod Fronts
+pub mod Whole
