@@ -3,6 +3,7 @@
 use Prim.Native.Nat.{ℕ, zero, suc, _+_, _-_, _^_, _*_, _<_, _≤_}
 use native.Mathlib.Omega.{arith}
 use mathlib.Core.Path.{_≡_, refl, sym, ap, _∙_}
+use mathlib.Core.Logic.{inl, inr}
 use mathlib.Core.Bool.{Bool, true, false, _&&_, not}
 use mathlib.Core.List.{List, [], _∷_, _++_, append-assoc}
 use lib.Dec.{eqb}
@@ -10,10 +11,10 @@ use lib.IntN.{ℤ, pos, negℤ, _*ℤ_}
 use lib.Signed.{mag}
 use lib.ListN.{length, getD, drop}
 use lib.Seq.{slice, length-slice}
-use borrow.Author.Tests.{eqb-true, not-true}
+use borrow.Author.Tests.{eqb-true, not-true, ne-eqb}
 use Rattle.primitive.specs.Answer.{if}
 use Rattle.primitive.specs.Text.{lower, lowered, bytes, blank, digit, letter, tag}
-use Rattle.primitive.specs.Primitive.{decimal, same, placeAnswer}
+use Rattle.primitive.specs.Primitive.{decimal, dec-uint, same, placeAnswer, u32Answer}
 use Rattle.primitive.specs.Ordinal.{signed}
 use Rattle.primitive.proofs.Rows.{all, halves, Number}
 use Rattle.primitive.proofs.Lowered.{length-lowered, rest-cons, rest-none, clash}
@@ -36,15 +37,19 @@ use Rattle.forms.proofs.Combined.{separator-read, hour-alone, no-time-behind}
 use Rattle.forms.proofs.Relative.{plural, turned, LongUnit, ago-read, no-direction, year-word, month-word, week-word, day-word, hour-word, second-unit}
 use Rattle.forms.proofs.RelativeItems.{OtherWord, tested, other-word, number-and-unit, signed-and-unit, seconds, signed-seconds}
 use Rattle.quick.specs.Rows.{Digits}
-use Rattle.quick.specs.Shifts.{relativeOf, ShiftAt, wordOf, wayOf, Plural, Ended, EndedAt, CountAt}
+use Rattle.quick.specs.Shifts.{relativeOf, ShiftAt, BehindSign, UnitAt, wordOf, wayOf, Plural, Counted, CountAt}
 use Rattle.quick.specs.declared.shifts.TimeUnit.{TimeUnit}
 use Rattle.quick.specs.declared.shifts.TimeUnit.the-variants as unit
 use Rattle.quick.specs.declared.shifts.ReadShift.{ReadShift}
 use Rattle.quick.specs.declared.shifts.ReadShift.the-variants as shift
+use Rattle.quick.specs.declared.shifts.ReadUnit.{ReadUnit}
+use Rattle.quick.specs.declared.shifts.ReadUnit.the-variants as unit-read
 use Rattle.primitive.specs.declared.ReadPlace.{ReadPlace}
 use Rattle.primitive.specs.declared.ReadPlace.the-variants as place
+use Rattle.primitive.specs.declared.ReadU32.{ReadU32}
+use Rattle.primitive.specs.declared.ReadU32.the-variants as u32
 use Rattle.quick.proofs.Places.{part, mark}
-use Rattle.quick.proofs.Found.{read-word}
+use Rattle.quick.proofs.Found.{read-row, read-word}
 
 -- ---- units and their direction
 
@@ -193,25 +198,36 @@ ago-written s at n r h e f g k =
     let z = eqb-true n (length s) k in
     mark s at 32 h e refl ∙ rw (read-word (bytes "ago") (lowered s) (at + 1) n r f g, rest-none s n (omega arith))
 
--- what stands behind a unit
-module _ (s : List ℕ) (word : ReadPlace) (e n v : ℕ) (u : TimeUnit) (negative : Bool) (k : ℤ) (found : word ≡ place.Match e) (p : Plural (lowered s) e n) where
-  pub ended-here : length s ≤ n → k ≡ signed negative v → Ended (lowered s) word u negative v u k
-  ended-here h a = record { end = e; found = found; unit = refl; many = p .many; ago = false; written = rw (rest-none s n h) at (p .written); amount = a }
+-- the name of a unit
+pub unit-answer : (u : TimeUnit) (text : List ℕ) (at n : ℕ) (r : ReadPlace) → placeAnswer r ≡ tag (wordOf u) text at → r ≡ place.Match n → UnitAt text at (unit-read.Match u n)
+unit-answer u = read-word (wordOf u)
 
-  pub ended-ago : drop n (lowered s) ≡ wayOf true → k ≡ signed (not negative) v → Ended (lowered s) word u negative v u k
-  ended-ago h a = record { end = e; found = found; unit = refl; many = p .many; ago = true; written = rw h at (p .written); amount = a }
+-- a blank, a unit and its direction
+module _ (s : List ℕ) (at end n v : ℕ) (u : TimeUnit) (negative : Bool) (k : ℤ) (r : ReadUnit) (small : v ≤ 300000000) (h : at < length s) (b : getD s at 0 ≡ 32) (w : UnitAt (lowered s) (at + 1) r) (found : r ≡ unit-read.Match u end) (p : Plural (lowered s) end n) where
+  counted : (ago : Bool) → drop n (lowered s) ≡ wayOf ago → k ≡ signed (if ago (not negative) negative) v → Counted (lowered s) at negative v u k
+  unfolding lower
+  counted ago e a =
+      let name : UnitAt (lowered s) (at + 1) (unit-read.Match u end) = rw found at w in
+      record { small = small; many = p .many; ago = ago; written = mark s at 32 h b refl ∙ rw (name, p .written, e); amount = a }
 
--- a blank and a unit
-pub count-answer : (s : List ℕ) (at n : ℕ) (negative : Bool) (u : TimeUnit) (word : ReadPlace) (r : ReadShift) → n ≤ 300000000 → at < length s → getD s at 0 ≡ 32 → placeAnswer word ≡ tag (wordOf u) (lowered s) (at + 1) → EndedAt (lowered s) word u negative n r → CountAt (lowered s) at negative n r
-unfolding lower
-count-answer s at n negative u word (shift.Match v k) small h b f d = record {
-  small = small;
-  many = d .many;
-  ago = d .ago;
-  written = mark s at 32 h b refl ∙ rw (d .unit, read-word (wordOf u) (lowered s) (at + 1) (d .end) word f (d .found), d .written);
-  amount = d .amount;
-}
-count-answer s at n negative u word shift.NoMatch small h b f d = tt
+  pub counted-here : length s ≤ n → k ≡ signed negative v → Counted (lowered s) at negative v u k
+  counted-here e = counted false (rest-none s n e)
+
+  pub counted-ago : drop n (lowered s) ≡ wayOf true → k ≡ signed (not negative) v → Counted (lowered s) at negative v u k
+  counted-ago = counted true
+
+-- where the digits begin
+pub behind-sign : (b at : ℕ) (negative : Bool) → b ≡ signOf negative → BehindSign b at (at + 1)
+behind-sign b at true e = inr (refl, rw e)
+behind-sign b at false e = inr (refl, rw e)
+
+pub no-minus : (b at : ℕ) → (b ≡ 45 → ⊥) → BehindSign b at at
+no-minus b at e = inl (refl, ne-eqb b 45 e)
+
+-- the digits that were read there
+pub number-there : (s : List ℕ) (at start v n : ℕ) (r : ReadU32) → at < length s → BehindSign (getD s at 0) at start → u32Answer r ≡ dec-uint 4294967295 (lowered s) start → r ≡ u32.Match v n → Digits (lowered s) start n v
+number-there s at start v n r h (inl (e, f)) = read-row _ _ _ _ r (rw length-lowered (omega arith))
+number-there s at start v n r h (inr (e, f)) = read-row _ _ _ _ r (rw length-lowered (omega arith))
 
 -- a number behind a sign, and one without a sign
 sign-lower : (negative : Bool) → lower (signOf negative) ≡ signOf negative
@@ -223,7 +239,7 @@ module _ (s : List ℕ) (at v n : ℕ) (h : at < length s) where
   there : at < length (lowered s)
   there = rw (length-lowered s) h
 
-  pub signed-answer : (negative : Bool) → getD s at 0 ≡ signOf negative → Digits (lowered s) (at + 1) n v → (r : ReadShift) → CountAt (lowered s) n negative v r → ShiftAt (lowered s) at r
+  signed-answer : (negative : Bool) → getD s at 0 ≡ signOf negative → Digits (lowered s) (at + 1) n v → (r : ReadShift) → CountAt (lowered s) n negative v r → ShiftAt (lowered s) at r
   signed-answer negative e d (shift.Match u k) c =
       let w : drop at (lowered s) ≡ signOf negative ∷ (slice (at + 1) n (lowered s) ++ countText u (c .many) (c .ago)) =
       mark s at (signOf negative) h e (sign-lower negative) ∙ rw (part (lowered s) (at + 1) n (d .forward), c .written, append-assoc) in
@@ -236,7 +252,7 @@ module _ (s : List ℕ) (at v n : ℕ) (h : at < length s) where
       }
   signed-answer negative e d shift.NoMatch c = tt
 
-  pub plain-answer : Digits (lowered s) at n v → n - at ≤ 4 → (r : ReadShift) → CountAt (lowered s) n false v r → ShiftAt (lowered s) at r
+  plain-answer : Digits (lowered s) at n v → n - at ≤ 4 → (r : ReadShift) → CountAt (lowered s) n false v r → ShiftAt (lowered s) at r
   plain-answer d four (shift.Match u k) c =
       let w : drop at (lowered s) ≡ slice at n (lowered s) ++ countText u (c .many) (c .ago) = part (lowered s) at n (d .forward) ∙ rw (c .written, append-assoc) in
       let small : decimal (slice at n (lowered s)) ≤ 300000000 = rw (d .value) (c .small) in
@@ -248,3 +264,7 @@ module _ (s : List ℕ) (at v n : ℕ) (h : at < length s) where
         no-time = rw w (plain-no-time (c .many) (c .ago) (d .number) u);
       }
   plain-answer d four shift.NoMatch c = tt
+
+  pub shift-answer : (start : ℕ) → BehindSign (getD s at 0) at start → Digits (lowered s) start n v → (start ≡ at → n - at ≤ 4) → (r : ReadShift) → CountAt (lowered s) n (eqb (getD s at 0) 45) v r → ShiftAt (lowered s) at r
+  shift-answer start (inl (e, f)) d four r c = plain-answer (rw e at d) (four e) r (rw f at c)
+  shift-answer start (inr (e, f)) d four r c = signed-answer (eqb (getD s at 0) 45) f (rw e at d) r c

@@ -1,15 +1,15 @@
 -- What is known of a relative item where a quick reader answers one: the definitions read the same item.
-use Prim.Native.Nat.{ℕ, _<_, _≤_}
+use Prim.Native.Nat.{ℕ, _+_, _<_, _≤_}
 use mathlib.Core.Path.{_≡_}
+use mathlib.Core.Logic.{_⊎_}
 use mathlib.Core.Bool.{Bool, true, false, not}
 use mathlib.Core.List.{List, [], _∷_, _++_}
+use lib.Dec.{eqb}
 use lib.ListN.{length, drop}
 use lib.IntN.{ℤ, pos, _*ℤ_}
 use Rattle.primitive.specs.Answer.{if}
 use Rattle.primitive.specs.Text.{bytes, blank}
 use Rattle.primitive.specs.Ordinal.{signed}
-use Rattle.primitive.specs.declared.ReadPlace.{ReadPlace}
-use Rattle.primitive.specs.declared.ReadPlace.the-variants as place
 use Rattle.primitive.proofs.Rows.{all}
 use Rattle.dates.specs.declared.date.Date.{Date}
 use Rattle.relative.specs.declared.Relative.{Relative}
@@ -18,12 +18,14 @@ use Rattle.items.specs.Combined.{parse-time-after-date}
 use Rattle.items.specs.Items.{parse-item}
 use Rattle.items.specs.declared.Item.the-variants as item
 use Rattle.forms.proofs.Walk.{Reads, Fails}
-use Rattle.forms.proofs.Leaves.{Still}
+use Rattle.forms.proofs.Leaves.{Still, signOf}
 use Rattle.forms.proofs.Relative.{plural}
 use Rattle.quick.specs.declared.shifts.TimeUnit.{TimeUnit}
 use Rattle.quick.specs.declared.shifts.TimeUnit.the-variants as unit
 use Rattle.quick.specs.declared.shifts.ReadShift.{ReadShift}
 use Rattle.quick.specs.declared.shifts.ReadShift.the-variants as shift
+use Rattle.quick.specs.declared.shifts.ReadUnit.{ReadUnit}
+use Rattle.quick.specs.declared.shifts.ReadUnit.the-variants as unit-read
 
 -- so many units
 abbrev pub relativeOf : TimeUnit → ℤ → Relative
@@ -47,6 +49,10 @@ ShiftAt text at shift.NoMatch = Unit {0}
 
 -- ---- the parts
 
+-- where the digits begin, with the byte b at the place: there, where b is no minus, or behind b, which is a sign
+abbrev pub BehindSign : ℕ → ℕ → ℕ → Type 0
+BehindSign b at n = ((n ≡ at) × (eqb b 45 ≡ false)) ⊎ ((n ≡ at + 1) × (b ≡ signOf (eqb b 45)))
+
 abbrev pub wordOf : TimeUnit → List ℕ
 wordOf unit.Year = bytes "year"
 wordOf unit.Month = bytes "month"
@@ -54,6 +60,11 @@ wordOf unit.Week = bytes "week"
 wordOf unit.Day = bytes "day"
 wordOf unit.Hour = bytes "hour"
 wordOf unit.Second = bytes "second"
+
+-- the name of a unit, up to the place n
+abbrev pub UnitAt : List ℕ → ℕ → ReadUnit → Type 0
+UnitAt text at (unit-read.Match u n) = drop at text ≡ wordOf u ++ drop n text
+UnitAt text at unit-read.NoMatch = Unit {0}
 
 -- a blank and `ago`, or nothing
 abbrev pub wayOf : Bool → List ℕ
@@ -64,20 +75,6 @@ wayOf false = []
 pub record Plural (text : List ℕ) (at n : ℕ) : Type 0 where
   pub many : Bool
   pub written : drop at text ≡ plural many ++ drop n text
-
--- what stands behind a word that was found
-pub record Ended (text : List ℕ) (word : ReadPlace) (u : TimeUnit) (negative : Bool) (n : ℕ) (v : TimeUnit) (k : ℤ) : Type 0 where
-  pub end : ℕ
-  pub found : word ≡ place.Match end
-  pub unit : v ≡ u
-  pub many : Bool
-  pub ago : Bool
-  pub written : drop end text ≡ plural many ++ wayOf ago
-  pub amount : k ≡ signed (if ago (not negative) negative) n
-
-abbrev pub EndedAt : List ℕ → ReadPlace → TimeUnit → Bool → ℕ → ReadShift → Type 0
-EndedAt text word u negative n (shift.Match v k) = Ended text word u negative n v k
-EndedAt text word u negative n shift.NoMatch = Unit {0}
 
 -- what stands behind a number
 pub record Counted (text : List ℕ) (at : ℕ) (negative : Bool) (n : ℕ) (u : TimeUnit) (k : ℤ) : Type 0 where

@@ -9,8 +9,7 @@ ghost use mathlib.Core.Bool.{true};
 ghost use lib.ListN.{length, getD, drop};
 ghost use Rattle.primitive.specs.Text.{lowered};
 ghost use Rattle.primitive.specs.Ordinal.{signed};
-ghost use Rattle.forms.proofs.Leaves.{signOf};
-ghost use Rattle.quick.specs.Shifts.{ShiftAt, CountAt, EndedAt, Plural, wayOf};
+ghost use Rattle.quick.specs.Shifts.{ShiftAt, BehindSign, CountAt, UnitAt, Plural, wayOf};
 
 pub enum TimeUnit {
     Year,
@@ -27,6 +26,12 @@ pub enum ReadShift {
     NoMatch,
 }
 
+// A unit, and where its name ends.
+pub enum ReadUnit {
+    Match(TimeUnit, usize),
+    NoMatch,
+}
+
 // A number without a sign has four digits at most: a longer one may be a date.
 pub(crate) fn shift(s: &[u8], at: usize) -> ReadShift
     ensures { λ r. ⌜ ShiftAt (lowered (now (s .entry))) at r ⌝ }
@@ -34,33 +39,33 @@ pub(crate) fn shift(s: &[u8], at: usize) -> ReadShift
     if s.len() <= at {
         return ReadShift::NoMatch;
     }
+    let start = behind_sign(s, at);
+    let ReadU32::Match(n, end) = primitive::dec_u32(s, start) else {
+        return ReadShift::NoMatch;
+    };
+    if start == at {
+        if end - at > 4 {
+            return ReadShift::NoMatch;
+        }
+    }
+    count(s, end, s[at] == 45, n)
+}
+
+// Behind a plus or a minus, or the same place.
+fn behind_sign(s: &[u8], at: usize) -> usize
+    requires { ⌜ at < length (now s) ⌝ }
+    ensures { λ r. ⌜ BehindSign (getD (now (s .entry)) at 0) at r ⌝ }
+{
     if s[at] == 43 {
-        return signed_shift(s, at, false);
+        return at + 1;
     }
     if s[at] == 45 {
-        return signed_shift(s, at, true);
+        return at + 1;
     }
-    let ReadU32::Match(n, end) = primitive::dec_u32(s, at) else {
-        return ReadShift::NoMatch;
-    };
-    if end - at > 4 {
-        return ReadShift::NoMatch;
-    }
-    count(s, end, false, n)
+    at
 }
 
-// The number behind a sign.
-fn signed_shift(s: &[u8], at: usize, negative: bool) -> ReadShift
-    requires { ⌜ (at < length (now s)) × (getD (now s) at 0 ≡ signOf negative) ⌝ }
-    ensures { λ r. ⌜ ShiftAt (lowered (now (s .entry))) at r ⌝ }
-{
-    let ReadU32::Match(n, end) = primitive::dec_u32(s, at + 1) else {
-        return ReadShift::NoMatch;
-    };
-    count(s, end, negative, n)
-}
-
-// A blank, the unit, and which way it goes.
+// A blank, the unit, and which way it goes. The bound keeps a number of weeks in an i32.
 fn count(s: &[u8], at: usize, negative: bool, n: u32) -> ReadShift
     ensures { λ r. ⌜ CountAt (lowered (now (s .entry))) at negative n r ⌝ }
 {
@@ -73,71 +78,7 @@ fn count(s: &[u8], at: usize, negative: bool, n: u32) -> ReadShift
     if s[at] != 32 {
         return ReadShift::NoMatch;
     }
-    let start = at + 1;
-    if s.len() <= start {
-        return ReadShift::NoMatch;
-    }
-    let b = primitive::to_lower(s[start]);
-    if b == 115 {
-        return ended(
-            s,
-            primitive::tag(s, start, b"second"),
-            TimeUnit::Second,
-            negative,
-            n,
-        );
-    }
-    if b == 100 {
-        return ended(
-            s,
-            primitive::tag(s, start, b"day"),
-            TimeUnit::Day,
-            negative,
-            n,
-        );
-    }
-    if b == 119 {
-        return ended(
-            s,
-            primitive::tag(s, start, b"week"),
-            TimeUnit::Week,
-            negative,
-            n,
-        );
-    }
-    if b == 109 {
-        return ended(
-            s,
-            primitive::tag(s, start, b"month"),
-            TimeUnit::Month,
-            negative,
-            n,
-        );
-    }
-    if b == 104 {
-        return ended(
-            s,
-            primitive::tag(s, start, b"hour"),
-            TimeUnit::Hour,
-            negative,
-            n,
-        );
-    }
-    ended(
-        s,
-        primitive::tag(s, start, b"year"),
-        TimeUnit::Year,
-        negative,
-        n,
-    )
-}
-
-// What stands behind a unit: `s` or nothing, and then `ago` behind a blank or the end of the text.
-fn ended(s: &[u8], word: ReadPlace, unit: TimeUnit, negative: bool, n: u32) -> ReadShift
-    requires { ⌜ n < 2 ^ 31 ⌝ }
-    ensures { λ r. ⌜ EndedAt (lowered (now (s .entry))) word unit negative n r ⌝ }
-{
-    let ReadPlace::Match(end) = word else {
+    let ReadUnit::Match(unit, end) = unit_at(s, at + 1) else {
         return ReadShift::NoMatch;
     };
     let end = behind_plural(s, end);
@@ -148,6 +89,31 @@ fn ended(s: &[u8], word: ReadPlace, unit: TimeUnit, negative: bool, n: u32) -> R
         return ReadShift::Match(unit, amount(!negative, n));
     }
     ReadShift::NoMatch
+}
+
+// The name of a unit.
+fn unit_at(s: &[u8], at: usize) -> ReadUnit
+    ensures { λ r. ⌜ UnitAt (lowered (now (s .entry))) at r ⌝ }
+{
+    if let ReadPlace::Match(end) = primitive::tag(s, at, b"second") {
+        return ReadUnit::Match(TimeUnit::Second, end);
+    }
+    if let ReadPlace::Match(end) = primitive::tag(s, at, b"day") {
+        return ReadUnit::Match(TimeUnit::Day, end);
+    }
+    if let ReadPlace::Match(end) = primitive::tag(s, at, b"week") {
+        return ReadUnit::Match(TimeUnit::Week, end);
+    }
+    if let ReadPlace::Match(end) = primitive::tag(s, at, b"month") {
+        return ReadUnit::Match(TimeUnit::Month, end);
+    }
+    if let ReadPlace::Match(end) = primitive::tag(s, at, b"hour") {
+        return ReadUnit::Match(TimeUnit::Hour, end);
+    }
+    if let ReadPlace::Match(end) = primitive::tag(s, at, b"year") {
+        return ReadUnit::Match(TimeUnit::Year, end);
+    }
+    ReadUnit::NoMatch
 }
 
 // Behind an `s`, or the same place.
