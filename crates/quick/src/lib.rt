@@ -8,12 +8,12 @@ mod days;
 mod rows;
 mod shifts;
 
-use builder::Built;
 use crate::clocks::ReadClock;
 use crate::clocks::Zone;
 use crate::days::ReadDay;
 use crate::shifts::ReadShift;
 use crate::shifts::TimeUnit;
+use builder::Built;
 use extended::DateParts;
 use extended::ExtendedDateTime;
 use extended::Made;
@@ -147,7 +147,10 @@ fn iso_shape(s: &[u8]) -> ReadShape
     let b = s[at];
     let start = at + 1;
     if timed(s, at) {
-        let ReadClock::Match(hour, minute, second, nanosecond, zone, next) = crate::clocks::clock(s, start) else {
+        let ReadClock::Match(hour, minute, second, nanosecond, zone, next) = crate::clocks::clock(
+            s,
+            start,
+        ) else {
             return ReadShape::NoMatch;
         };
         return ReadShape::Match(Shape {
@@ -216,7 +219,10 @@ fn other_shape(s: &[u8], read: ReadDay) -> ReadShape
     if !clocked(s, at) {
         return midnight(year, month, day, at);
     }
-    let ReadClock::Match(hour, minute, second, nanosecond, zone, next) = crate::clocks::half_day(s, at) else {
+    let ReadClock::Match(hour, minute, second, nanosecond, zone, next) = crate::clocks::half_day(
+        s,
+        at,
+    ) else {
         return ReadShape::NoMatch;
     };
     ReadShape::Match(Shape {
