@@ -3,3 +3,4 @@ pub mod Cases
 pub mod Weekdays
 pub mod Loops
 pub mod Places
+pub mod DateAndTime

@@ -161,7 +161,7 @@ whole-read : (w : List ℕ) {l : List ℕ} → decimal w ≤ 255 → Reads (pars
 unfolding parse-uint
 whole-read w h = verified (le-leb (decimal w) 255 h)
 
-all-joined : (p : ℕ → Bool) (k l : List ℕ) → all p k ≡ true → all p l ≡ true → all p (k ++ l) ≡ true
+pub all-joined : (p : ℕ → Bool) (k l : List ℕ) → all p k ≡ true → all p l ≡ true → all p (k ++ l) ≡ true
 all-joined p [] l f g = g
 all-joined p (b ∷ bs) l f g = let t = halves (p b) (all p bs) f in rw (t .0) (all-joined p bs l (t .1) g)
 

@@ -11,7 +11,8 @@ use lib.Seq.{slice, length-slice, take-take}
 use borrow.Author.Tests.{le-leb, lt-leb}
 use Rattle.primitive.specs.Text.{lowered, digit}
 use Rattle.primitive.specs.Primitive.{decimal}
-use Rattle.primitive.proofs.Rows.{all, halves, both}
+use Rattle.primitive.proofs.Rows.{both}
+use Rattle.forms.proofs.Dates.{all-joined}
 use Rattle.primitive.proofs.Values.{decimal-more}
 use Rattle.primitive.proofs.Lowered.{length-lowered, getD-lowered, digit-lower, digit-same, slice-first, slice-over}
 use Rattle.quick.specs.Rows.{DigitOf, Digits, Short}
@@ -41,10 +42,6 @@ decimal-joined : (k l : List ℕ) → decimal (k ++ l) ≡ decimal k * 10 ^ leng
 unfolding decimal
 decimal-joined k [] = rw append-nil (omega arith)
 decimal-joined k (b ∷ l) = ap decimal (sym (append-assoc k (b ∷ []) l)) ∙ decimal-joined (k ++ (b ∷ [])) l ∙ rw (decimal-more b k, add-mul, mul-assoc, pow-succ', add-assoc)
-
-all-joined : (p : ℕ → Bool) (k l : List ℕ) → all p k ≡ true → all p l ≡ true → all p (k ++ l) ≡ true
-all-joined p [] l f g = g
-all-joined p (b ∷ bs) l f g = let t = halves (p b) (all p bs) f in both (t .0) (all-joined p bs l (t .1) g)
 
 module _ (text : List ℕ) (a b c : ℕ) {v w : ℕ} where
   -- n digits behind a row

@@ -6,6 +6,5 @@ pub mod DateTexts
 pub mod ClockForms
 pub mod Found
 pub mod ShiftForms
-pub mod Building
 pub mod Fronts
 pub mod Whole

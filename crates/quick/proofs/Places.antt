@@ -3,9 +3,9 @@ use Prim.Native.Nat.{ℕ, zero, suc, _+_, _<_, _≤_}
 use native.Mathlib.Omega.{arith}
 use native.Mathlib.Nat.{le-of-suc-le-suc}
 use native.Mathlib.Numerals.{add-one}
-use mathlib.Core.Path.{_≡_, refl, sym, ap, _∙_}
+use mathlib.Core.Path.{_≡_, refl, sym, _∙_}
 use mathlib.Core.List.{List, [], _∷_, _++_}
-use lib.ListN.{length, getD, take, drop, take-append-drop}
+use lib.ListN.{length, getD, drop, take-append-drop}
 use lib.Seq.{slice, drop-cons}
 use Rattle.primitive.specs.Text.{lower, lowered}
 use Rattle.primitive.proofs.Lowered.{length-lowered, getD-lowered}

@@ -28,11 +28,12 @@ use Rattle.rules.specs.Placed.{Placed, fine, placed}
 use Rattle.builder.specs.Building.{addRelative, build}
 use Rattle.reading.specs.Reading.{ascii, asciiEnd, itemsOf, buildText, readText}
 use Rattle.reading.proofs.Steps.{ascii-low, all-read}
+use Rattle.quick.specs.Clocks.{zoneOf}
 use Rattle.quick.specs.Shifts.{relativeOf, Shift}
 use Rattle.quick.specs.Shapes.{slot, Fronts, day-alone, combined, apart, Front, Shaped, recordOf, AtOnce}
 use Rattle.quick.specs.declared.shifts.TimeUnit.{TimeUnit}
 use Rattle.quick.specs.declared.Shape.{Shape}
-use Rattle.quick.proofs.Building.{day-built, day-moved, combined-built, combined-moved, apart-built, apart-moved}
+use Rattle.builder.proofs.DateAndTime.{day-built, day-moved, combined-built, combined-moved, apart-built, apart-moved}
 
 -- the items of a text build what it builds
 listed : (text : List ℕ) {xs : List Slot} (base : ExtendedDateTime) → parse-items text ≡ ended xs 0 0 → buildText text base ≡ build [] xs base
@@ -41,14 +42,14 @@ listed text base e = rw e
 
 module _ (base : ExtendedDateTime) (tb : test base ≡ accepted tt) (x : Shape) (tr : test (recordOf x (base .«offset_seconds»)) ≡ accepted tt) where
   front-built : {xs : List Slot} → Fronts x xs → build [] xs base ≡ fine (recordOf x (base .«offset_seconds»))
-  front-built (day-alone h i s n z) = rw (h, i, s, n, z) (day-built base tb (x .year) (x .month) (x .day) (x .hour) (x .minute) (x .second) (x .nanosecond) (x .zone) tr)
-  front-built combined = combined-built base tb (x .year) (x .month) (x .day) (x .hour) (x .minute) (x .second) (x .nanosecond) (x .zone) tr
-  front-built apart = apart-built base tb (x .year) (x .month) (x .day) (x .hour) (x .minute) (x .second) (x .nanosecond) (x .zone) tr
+  front-built (day-alone h i s n z) = rw (h, i, s, n, z) (day-built base tb (x .year) (x .month) (x .day) (x .hour) (x .minute) (x .second) (x .nanosecond) (zoneOf (x .zone)) tr)
+  front-built combined = combined-built base tb (x .year) (x .month) (x .day) (x .hour) (x .minute) (x .second) (x .nanosecond) (zoneOf (x .zone)) tr
+  front-built apart = apart-built base tb (x .year) (x .month) (x .day) (x .hour) (x .minute) (x .second) (x .nanosecond) (zoneOf (x .zone)) tr
 
   front-moved : {xs : List Slot} (v : Relative) → Fronts x xs → build [] (xs ++ (slot (item.Relative v) ∷ [])) base ≡ placed 0 (addRelative v (recordOf x (base .«offset_seconds»)))
-  front-moved v (day-alone h i s n z) = rw (h, i, s, n, z) (day-moved base tb (x .year) (x .month) (x .day) (x .hour) (x .minute) (x .second) (x .nanosecond) (x .zone) tr v)
-  front-moved v combined = combined-moved base tb (x .year) (x .month) (x .day) (x .hour) (x .minute) (x .second) (x .nanosecond) (x .zone) tr v
-  front-moved v apart = apart-moved base tb (x .year) (x .month) (x .day) (x .hour) (x .minute) (x .second) (x .nanosecond) (x .zone) tr v
+  front-moved v (day-alone h i s n z) = rw (h, i, s, n, z) (day-moved base tb (x .year) (x .month) (x .day) (x .hour) (x .minute) (x .second) (x .nanosecond) (zoneOf (x .zone)) tr v)
+  front-moved v combined = combined-moved base tb (x .year) (x .month) (x .day) (x .hour) (x .minute) (x .second) (x .nanosecond) (zoneOf (x .zone)) tr v
+  front-moved v apart = apart-moved base tb (x .year) (x .month) (x .day) (x .hour) (x .minute) (x .second) (x .nanosecond) (zoneOf (x .zone)) tr v
 
   there : exists (x .year) (x .month) (x .day) ≡ true
   unfolding exists make

@@ -11,16 +11,14 @@ use Rattle.extended.specs.declared.ExtendedDateTime.{ExtendedDateTime}
 use Rattle.extended.specs.declared.Made.{Made}
 use Rattle.extended.specs.declared.Made.the-variants as made
 use Rattle.dates.specs.Date.{exists}
-use Rattle.times.specs.Offset.{totalSeconds}
 use Rattle.times.specs.declared.time.Time.{Time}
-use Rattle.times.specs.declared.time.TimeOffset.{TimeOffset}
-use Rattle.times.specs.declared.time.TimeOffset.the-variants as offset
 use Rattle.items.specs.Items.{ended, parse-items}
 use Rattle.items.specs.declared.Item.{Item}
 use Rattle.items.specs.declared.Item.the-variants as item
 use Rattle.items.specs.declared.Slot.{Slot}
 use Rattle.forms.proofs.Combined.{separatorOf}
 use Rattle.rules.specs.Placed.{fine}
+use Rattle.builder.proofs.DateAndTime.{offsetOr}
 use Rattle.reading.specs.Reading.{buildText}
 use Rattle.quick.specs.Days.{dayOf}
 use Rattle.quick.specs.Clocks.{zoneOf, timeOf, Ranges}
@@ -75,11 +73,6 @@ atMidnight y m d n = record { year = y; month = m; day = d; hour = 0; minute = 0
 pub record SeparatorAt (text : List ℕ) (at : ℕ) : Type 0 where
   pub with-t : Bool
   pub there : drop at text ≡ separatorOf with-t ∷ drop (at + 1) text
-
--- the offset that is given, or that of the base
-abbrev pub offsetOr : ℤ → TimeOffset → ℤ
-offsetOr base (offset.Given o) = totalSeconds o
-offsetOr base offset.NotGiven = base
 
 abbrev pub recordOf : Shape → ℤ → ExtendedDateTime
 recordOf x base = make (date (x .year) (x .month) (x .day)) (time (x .hour) (x .minute) (x .second) (x .nanosecond)) (offsetOr base (zoneOf (x .zone)))

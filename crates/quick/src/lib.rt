@@ -25,12 +25,13 @@ ghost use lib.ListN.{length};
 ghost use Rattle.primitive.specs.Text.{lowered};
 ghost use Rattle.extended.specs.Extended.{madeOf, accept};
 ghost use Rattle.builder.specs.Building.{builtOf, addRelative};
+ghost use Rattle.builder.proofs.DateAndTime.{offsetOr};
 ghost use Rattle.reading.specs.Reading.{asciiEnd, readText};
 ghost use Rattle.quick.specs.Days.{IsoDate, OtherDate};
 ghost use Rattle.quick.specs.Clocks.{zoneOf, zoneSmall, Ranges};
 ghost use Rattle.quick.specs.Shifts.{relativeOf};
 ghost use mathlib.Core.Bool.{true};
-ghost use Rattle.quick.specs.Shapes.{Small, ShapeOf, SeparatorAt, atMidnight, offsetOr, recordOf, AtOnce};
+ghost use Rattle.quick.specs.Shapes.{Small, ShapeOf, SeparatorAt, atMidnight, recordOf, AtOnce};
 
 // No text of these forms is longer.
 const LONGEST: usize = 128;

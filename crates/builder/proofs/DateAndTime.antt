@@ -4,30 +4,45 @@ use native.Mathlib.Omega.{arith}
 use Prim.Native.Nat.{ℕ}
 use mathlib.Core.Path.{_≡_, refl}
 use mathlib.Core.Bool.{Bool, true, false}
-use mathlib.Core.List.{List, [], _∷_, _++_}
+use mathlib.Core.List.{[], _∷_}
+use lib.IntN.{ℤ}
 use Rattle.extended.specs.Outcome.{Outcome, accepted, refused, _>>=_, _>>_}
 use Rattle.extended.specs.Extended.{make, date, time, dateOf, test, accept, withDate, withTime, withOffset}
 use Rattle.extended.specs.declared.ExtendedDateTime.{ExtendedDateTime}
 use Rattle.extended.proofs.Records.{facts, tested}
+use Rattle.dates.specs.Date as dates
 use Rattle.dates.specs.declared.date.Date.{Date}
+use Rattle.dates.specs.declared.date.DateYear.the-variants.{Given}
 use Rattle.times.specs.Offset.{totalSeconds}
 use Rattle.times.specs.declared.time.Time.{Time}
+use Rattle.times.specs.declared.time.TimeOffset.{TimeOffset}
+use Rattle.times.specs.declared.time.TimeOffset.the-variants as offset
 use Rattle.relative.specs.declared.Relative.{Relative}
+use Rattle.items.specs.declared.Item.{Item}
 use Rattle.items.specs.declared.Item.the-variants as item
 use Rattle.items.specs.declared.Slot.{Slot}
 use Rattle.rules.specs.Placed.{fine, placed}
 use Rattle.rules.specs.Rules.{needMidnight, setDate, setTime, setDateTime, setItem, gather, relatives}
 use Rattle.builder.specs.Building.{start, onDate, onOffset, onTime, onWeekday, addRelative, addRelatives, onZone, absolute, buildExtended, built, build}
 use Rattle.rules.specs.declared.DateTimeBuilder.{DateTimeBuilder}
 use Rattle.rules.specs.declared.GivenDate.the-variants as given-date
 use Rattle.rules.specs.declared.GivenTime.the-variants as given-time
 use Rattle.rules.specs.declared.GivenWeekday.the-variants as given-weekday
 use Rattle.rules.specs.declared.GivenZone.the-variants as given-zone
-use Rattle.quick.specs.Days.{dayOf}
-use Rattle.quick.specs.Clocks.{zoneOf, timeOf}
-use Rattle.quick.specs.Shapes.{slot, offsetOr}
-use Rattle.quick.specs.declared.clocks.Zone.{Zone}
-use Rattle.quick.specs.declared.clocks.Zone.the-variants as zone
+
+-- the offset that is given, or that of the base
+abbrev pub offsetOr : ℤ → TimeOffset → ℤ
+offsetOr base (offset.Given o) = totalSeconds o
+offsetOr base offset.NotGiven = base
+
+abbrev slot : Item → Slot
+slot v = record { item = v }
+
+abbrev dayOf : ℕ → ℕ → ℕ → Date
+dayOf y m d = dates.dateOf (Given y) m d
+
+abbrev timeOf : ℕ → ℕ → ℕ → ℕ → TimeOffset → Time
+timeOf h i s n o = record { hour = h; minute = i; second = s; nanosecond = n; offset = o }
 
 -- a last step that changes nothing
 no-more : {A : Type 0} (p : Outcome A) → p >>= accepted ≡ p
@@ -38,9 +53,9 @@ accept-ok : (r : ExtendedDateTime) → test r ≡ accepted tt → accept r ≡ a
 unfolding accept
 accept-ok r t = rw t
 
-module _ (base : ExtendedDateTime) (tb : test base ≡ accepted tt) (y m d h i s n : ℕ) (z : Zone) where
+module _ (base : ExtendedDateTime) (tb : test base ≡ accepted tt) (y m d h i s n : ℕ) (z : TimeOffset) where
   abbrev whole : ExtendedDateTime
-  whole = make (date y m d) (time h i s n) (offsetOr (base .«offset_seconds») (zoneOf z))
+  whole = make (date y m d) (time h i s n) (offsetOr (base .«offset_seconds») z)
 
   abbrev at-midnight : ExtendedDateTime
   at-midnight = make (dateOf base) (time 0 0 0 0) (base .«offset_seconds»)
@@ -48,8 +63,8 @@ module _ (base : ExtendedDateTime) (tb : test base ≡ accepted tt) (y m d h i s
   abbrev on-date : ExtendedDateTime
   on-date = make (date y m d) (time 0 0 0 0) (base .«offset_seconds»)
 
-  abbrev at-offset : Zone → ExtendedDateTime
-  at-offset w = make (date y m d) (time 0 0 0 0) (offsetOr (base .«offset_seconds») (zoneOf w))
+  abbrev at-offset : TimeOffset → ExtendedDateTime
+  at-offset w = make (date y m d) (time 0 0 0 0) (offsetOr (base .«offset_seconds») w)
 
   module _ (tr : test whole ≡ accepted tt) where
     first : test at-midnight ≡ accepted tt
@@ -79,13 +94,13 @@ module _ (base : ExtendedDateTime) (tb : test base ≡ accepted tt) (y m d h i s
     unfolding withDate make
     dated = rw first (accept-ok _ second)
 
-    placed-at : onOffset (zoneOf z) on-date ≡ accepted (at-offset z)
+    placed-at : onOffset z on-date ≡ accepted (at-offset z)
     unfolding withOffset make
     placed-at = go z third
       where
-        go : (w : Zone) → test (at-offset w) ≡ accepted tt → onOffset (zoneOf w) on-date ≡ accepted (at-offset w)
-        go zone.NotGiven t = refl
-        go (zone.Given negative k l) t = rw second (accept-ok _ t)
+        go : (w : TimeOffset) → test (at-offset w) ≡ accepted tt → onOffset w on-date ≡ accepted (at-offset w)
+        go offset.NotGiven t = refl
+        go (offset.Given o) t = rw second (accept-ok _ t)
 
     timed : withTime (at-offset z) (time h i s n) ≡ accepted whole
     unfolding withTime make
