@@ -5,7 +5,7 @@ use Prim.Native.Nat.{ℕ, _+_, _-_, _*_, _^_, _<_, _≤_}
 use native.Mathlib.Nat.{pow-succ', add-mul, mul-assoc, add-assoc}
 use mathlib.Core.Path.{_≡_, refl, sym, ap, _∙_}
 use mathlib.Core.List.{List, [], _∷_, _++_, append-assoc, append-nil}
-use mathlib.Core.Bool.{Bool, true, false}
+use mathlib.Core.Bool.{false}
 use lib.ListN.{length, getD, take, length-append}
 use lib.Seq.{slice, length-slice, take-take}
 use borrow.Author.Tests.{le-leb, lt-leb}

@@ -30,7 +30,8 @@ run-all p (b ∷ bs) = go (p b) refl (run-all p bs)
     go true e h = both e h
     go false e h = refl
 
-some-row : (p : ℕ → Bool) (text w : List ℕ) (at n : ℕ) → some p text at ≡ matched w n → (at < n) × ((w ≡ slice at n text) × (all p w ≡ true))
+-- bytes that were read because they pass a test
+pub some-row : (p : ℕ → Bool) (text w : List ℕ) (at n : ℕ) → some p text at ≡ matched w n → (at < n) × ((w ≡ slice at n text) × (all p w ≡ true))
 unfolding some past
 some-row p text w at n = go (ltb at (at + run p (drop at text))) refl
   where

@@ -1,8 +1,8 @@
 -- From the quick readers to the items of a text: a date in front, a time behind it or none, and then nothing or a relative item. Assumes
 -- nothing.
 use native.Mathlib.Omega.{arith}
-use Prim.Native.Nat.{ℕ, zero, suc, _+_, _-_, _<_, _≤_}
-use mathlib.Core.Path.{_≡_, refl, sym, ap, _∙_}
+use Prim.Native.Nat.{ℕ, _+_, _<_, _≤_}
+use mathlib.Core.Path.{_≡_, refl, _∙_}
 use mathlib.Core.Bool.{Bool, true, false}
 use mathlib.Core.List.{List, [], _∷_, _++_}
 use lib.ListN.{length, getD, drop, length-drop, drop-of-length-le}
@@ -15,16 +15,16 @@ use Rattle.items.specs.Combined.{parse-time-after-date}
 use Rattle.items.specs.Items.{parse-item, ended, parse-items}
 use Rattle.items.specs.declared.Item.{Item}
 use Rattle.items.specs.declared.Item.the-variants as item
-use Rattle.forms.proofs.Walk.{Reads, Fails, Spaces}
+use Rattle.forms.proofs.Walk.{Reads, Fails}
 use Rattle.forms.proofs.Leaves.{head, Still, plain, digit-still, still, blanks}
 use Rattle.forms.proofs.Items.{iso-date-alone}
 use Rattle.forms.proofs.Combined.{separatorOf, combined-item, no-time-behind}
 use Rattle.forms.proofs.Lists.{no-more-items, one-item}
 use Rattle.quick.proofs.Places.{byte-there}
 use Rattle.quick.specs.Days.{dayOf, Iso, IsoDate, Other, OtherDate}
-use Rattle.quick.specs.Clocks.{zoneSmall, timeOf, Ranges, Clock, ClockAt, HalfDay, HalfDayAt}
-use Rattle.quick.specs.Shifts.{relativeOf, Shift, ShiftAt}
-use Rattle.quick.specs.Shapes.{slot, Fronts, day-alone, combined, apart, Front, Small, Shaped, ShapeOf, atMidnight, SeparatorAt}
+use Rattle.quick.specs.Clocks.{zoneSmall, timeOf, Clock, ClockAt, HalfDay, HalfDayAt}
+use Rattle.quick.specs.Shifts.{Shift, ShiftAt}
+use Rattle.quick.specs.Shapes.{slot, day-alone, combined, apart, Small, Shaped, ShapeOf, atMidnight, SeparatorAt}
 use Rattle.quick.specs.declared.days.ReadDay.{ReadDay}
 use Rattle.quick.specs.declared.days.ReadDay.the-variants as day
 use Rattle.quick.specs.declared.clocks.Zone.{Zone}

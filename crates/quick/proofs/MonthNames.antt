@@ -1,47 +1,32 @@
 -- The name of a month at a place: the letters that stand there, looked up in the table of months. Assumes nothing.
 use native.Mathlib.Omega.{arith}
-use Prim.Native.Nat.{ℕ, _+_, _<_, _≤_}
+use Prim.Native.Nat.{ℕ, _<_, _≤_}
 use Prim.Native.String.{String}
-use borrow.Author.Tests.{leb-true, ltb-true}
-use mathlib.Core.Path.{_≡_, refl}
+use borrow.Author.Tests.{leb-true}
+use mathlib.Core.Path.{_≡_, refl, sym}
 use mathlib.Core.List.{List, [], _∷_}
 use mathlib.Core.Bool.{Bool, true, false}
-use lib.ListN.{length, getD, take, drop}
+use lib.ListN.{length, getD}
 use lib.Seq.{slice, length-slice}
-use lib.Dec.{ltb, leb}
-use Rattle.primitive.specs.Answer.{matched, none, if}
-use Rattle.primitive.specs.Text.{lower, lowered, bytes, letter, run, past, some}
+use lib.Dec.{leb}
+use Rattle.primitive.specs.Answer.{matched, if}
+use Rattle.primitive.specs.Text.{lower, lowered, bytes, letter}
 use Rattle.primitive.specs.Primitive.{alpha1, same, named, u8Answer}
 use Rattle.primitive.specs.declared.ReadU8.{ReadU8}
 use Rattle.primitive.specs.declared.ReadU8.the-variants as u8
-use Rattle.primitive.proofs.Limits.{slice-take}
 use Rattle.primitive.proofs.Lowered.{length-lowered}
-use Rattle.primitive.proofs.Rows.{all, halves, both}
+use Rattle.primitive.proofs.Rows.{all, halves}
 use Rattle.dates.specs.Date.{months}
 use Rattle.forms.proofs.Tables.{every}
 use Rattle.quick.specs.Days.{NamedAt}
 use Rattle.quick.proofs.Places.{mark}
+use Rattle.quick.proofs.Found.{some-row}
 
 -- ---- letters
 
-run-passes : (p : ℕ → Bool) (l : List ℕ) → all p (take (run p l) l) ≡ true
-unfolding run
-run-passes p [] = refl
-run-passes p (b ∷ bs) = go (p b) refl (run-passes p bs)
-  where
-    go : (t : Bool) → p b ≡ t → all p (take (run p bs) bs) ≡ true → all p (take (run p (b ∷ bs)) (b ∷ bs)) ≡ true
-    go true e h = rw e (both e h)
-    go false e h = rw e
-
 word-letters : (text : List ℕ) (at e : ℕ) → matched (slice at e text) e ≡ alpha1 text at → (at < e) × (all letter (slice at e text) ≡ true)
-unfolding alpha1 some past
-word-letters text at e h = go (ltb at (at + run letter (drop at text))) refl h
-  where
-    go : (t : Bool) → ltb at (at + run letter (drop at text)) ≡ t → matched (slice at e text) e ≡ if t (matched (slice at (at + run letter (drop at text)) text) (at + run letter (drop at text))) none → (at < e) × (all letter (slice at e text) ≡ true)
-    go true f k =
-        let z : e ≡ at + run letter (drop at text) = cc in
-        rw z (ltb-true _ _ f, rw (slice-take at (run letter (drop at text)) text) (run-passes letter (drop at text)))
-    go false f k = let z : _≡_ {A = ℕ} 0 1 = cc in absurd (omega arith)
+unfolding alpha1
+word-letters text at e h = let (long, (row, letters)) = some-row letter text (slice at e text) at e (sym h) in (long, letters)
 
 -- ---- the table
 

@@ -8,7 +8,7 @@ use mathlib.Core.List.{List, [], _∷_, _++_}
 use lib.ListN.{length, getD}
 use lib.IntN.{ℤ}
 use borrow.Author.Tests.{le-leb}
-use Rattle.extended.specs.Outcome.{Outcome, accepted, number}
+use Rattle.extended.specs.Outcome.{accepted, number}
 use Rattle.extended.specs.Extended.{make, test, accept, madeOf}
 use Rattle.extended.specs.declared.ExtendedDateTime.{ExtendedDateTime}
 use Rattle.extended.specs.declared.Made.{Made}
@@ -24,13 +24,13 @@ use Rattle.relative.specs.declared.Relative.{Relative}
 use Rattle.items.specs.Items.{ended, parse-items}
 use Rattle.items.specs.declared.Item.the-variants as item
 use Rattle.items.specs.declared.Slot.{Slot}
-use Rattle.rules.specs.Placed.{Placed, fine, placed}
+use Rattle.rules.specs.Placed.{fine, placed}
 use Rattle.builder.specs.Building.{addRelative, build}
 use Rattle.reading.specs.Reading.{ascii, asciiEnd, itemsOf, buildText, readText}
 use Rattle.reading.proofs.Steps.{ascii-low, all-read}
 use Rattle.quick.specs.Clocks.{zoneOf}
 use Rattle.quick.specs.Shifts.{relativeOf, Shift}
-use Rattle.quick.specs.Shapes.{slot, Fronts, day-alone, combined, apart, Front, Shaped, recordOf, AtOnce}
+use Rattle.quick.specs.Shapes.{slot, Fronts, day-alone, combined, apart, Shaped, recordOf, AtOnce}
 use Rattle.quick.specs.declared.shifts.TimeUnit.{TimeUnit}
 use Rattle.quick.specs.declared.Shape.{Shape}
 use Rattle.builder.proofs.DateAndTime.{day-built, day-moved, combined-built, combined-moved, apart-built, apart-moved}

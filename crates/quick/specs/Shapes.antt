@@ -23,7 +23,6 @@ use Rattle.reading.specs.Reading.{buildText}
 use Rattle.quick.specs.Days.{dayOf}
 use Rattle.quick.specs.Clocks.{zoneOf, timeOf, Ranges}
 use Rattle.quick.specs.Shifts.{relativeOf, Shift}
-use Rattle.quick.specs.declared.clocks.Zone.{Zone}
 use Rattle.quick.specs.declared.clocks.Zone.the-variants as zone
 use Rattle.quick.specs.declared.shifts.TimeUnit.{TimeUnit}
 use Rattle.quick.specs.declared.Shape.{Shape}

@@ -20,7 +20,8 @@ use extended::Made;
 use extended::TimeParts;
 use times::offset::Offset;
 ghost use mathlib.Core.Path.{_≡_};
-ghost use Prim.Native.Nat.{_+_, _<_, _≤_};
+ghost use mathlib.Core.Bool.{true};
+ghost use Prim.Native.Nat.{_<_, _≤_};
 ghost use lib.ListN.{length};
 ghost use Rattle.primitive.specs.Text.{lowered};
 ghost use Rattle.extended.specs.Extended.{madeOf, accept};
@@ -28,9 +29,8 @@ ghost use Rattle.builder.specs.Building.{builtOf, addRelative};
 ghost use Rattle.builder.proofs.DateAndTime.{offsetOr};
 ghost use Rattle.reading.specs.Reading.{asciiEnd, readText};
 ghost use Rattle.quick.specs.Days.{IsoDate, OtherDate};
-ghost use Rattle.quick.specs.Clocks.{zoneOf, zoneSmall, Ranges};
+ghost use Rattle.quick.specs.Clocks.{zoneOf, zoneSmall};
 ghost use Rattle.quick.specs.Shifts.{relativeOf};
-ghost use mathlib.Core.Bool.{true};
 ghost use Rattle.quick.specs.Shapes.{Small, ShapeOf, SeparatorAt, atMidnight, recordOf, AtOnce};
 
 // No text of these forms is longer.
@@ -54,6 +54,7 @@ enum ReadShape {
     NoMatch,
 }
 
+// A text under a base, as `reading` reads it.
 pub fn read_text(text: &[u8], base: ExtendedDateTime) -> Built
     ensures { λ r. ⌜ builtOf r ≡ readText (now (text .entry)) base ⌝ }
 {
@@ -125,6 +126,7 @@ fn read_shape(s: &[u8]) -> ReadShape
     other_shape(s, other_date(s))
 }
 
+// A date that begins with a number or with a month's name.
 fn other_date(s: &[u8]) -> ReadDay
     requires { ⌜ 0 < length (now s) ⌝ }
     ensures { λ r. ⌜ OtherDate (lowered (now (s .entry))) r ⌝ }
@@ -193,6 +195,7 @@ fn timed(s: &[u8], at: usize) -> bool
     false
 }
 
+// The start of a day.
 fn midnight(year: u32, month: u32, day: u32, next: usize) -> ReadShape
     ensures { λ r. ⌜ r ≡ ReadShape.Match (atMidnight year month day next) ⌝ }
 {
@@ -273,6 +276,7 @@ fn moment(x: Shape, base: i32) -> Made
     ExtendedDateTime::new(date, time, offset_or(base, zone))
 }
 
+// The offset that is given, or that of the base.
 fn offset_or(base: i32, zone: Zone) -> i32
     requires { ⌜ zoneSmall zone ⌝ }
     ensures { λ r. ⌜ r ≡ offsetOr base (zoneOf zone) ⌝ }

@@ -1,6 +1,6 @@
 -- What the item of a written record builds under any base: the record itself, and with seconds behind it what `addSeconds` gives. Assumes
 -- nothing.
-use mathlib.Core.Path.{_≡_, refl, sym}
+use mathlib.Core.Path.{_≡_}
 use mathlib.Core.Bool.{true}
 use mathlib.Core.List.{[], _∷_}
 use lib.IntN.{ℤ}
