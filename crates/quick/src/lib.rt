@@ -33,7 +33,7 @@ ghost use Rattle.quick.specs.Clocks.{zoneOf, zoneSmall};
 ghost use Rattle.quick.specs.Shifts.{relativeOf};
 ghost use Rattle.quick.specs.Shapes.{Small, ShapeOf, SeparatorAt, atMidnight, recordOf, AtOnce};
 
-// No text of these forms is longer.
+// A longer text is not tried: of these forms it could only be one with many zeros in front of a number.
 const LONGEST: usize = 128;
 
 // A date and a time of day, midnight where none is given, and the place behind them and the blanks that follow.
