@@ -21,7 +21,7 @@ pub enum ReadDigits {
 pub fn year_from_str(s: &[u8], from: usize, to: usize) -> ReadU32
     ensures { λ r. ⌜ u32Answer r ≡ year-from-str (slice from to (lowered (now (s .entry)))) (lowered (now (s .entry))) to ⌝ }
 {
-    let ReadU64::Match(year, _) = primitive::parse_uint(s, from, to, 4294967295) else {
+    let ReadU64::Match(year, _) = numbers::parse_uint(s, from, to, 4294967295) else {
         return ReadU32::NoMatch;
     };
     let year = widen(digit_count(s, from, to), year);
@@ -46,7 +46,7 @@ fn widen(digits: usize, year: u64) -> u64
 }
 
 // How many bytes of the text stand from `from` up to `to`.
-pub(crate) fn digit_count(s: &[u8], from: usize, to: usize) -> usize
+pub fn digit_count(s: &[u8], from: usize, to: usize) -> usize
     ensures { λ r. ⌜ r ≡ length (slice from to (lowered (now (s .entry)))) ⌝ }
 {
     let end = if to < s.len() { to } else { s.len() };
@@ -54,10 +54,10 @@ pub(crate) fn digit_count(s: &[u8], from: usize, to: usize) -> usize
 }
 
 // The digits of a year, behind space.
-pub(crate) fn year_str(s: &[u8], at: usize) -> ReadDigits
+pub fn year_str(s: &[u8], at: usize) -> ReadDigits
     ensures { λ r. ⌜ digitsAnswer (lowered (now (s .entry))) r ≡ year-str (lowered (now (s .entry))) at ⌝ }
 {
-    let from = primitive::space(s, at);
+    let from = spaces::space(s, at);
     let ReadPlace::Match(to) = primitive::dec_uint_str(s, from) else {
         return ReadDigits::NoMatch;
     };

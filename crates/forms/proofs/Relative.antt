@@ -17,7 +17,7 @@ use Rattle.primitive.specs.Text.{bytes, blank, digit, letter, starts, quoted}
 use Rattle.primitive.specs.Primitive.{spaced, decimal, sign, same, named}
 use Rattle.primitive.specs.Epoch.{sec-and-nsec}
 use Rattle.primitive.specs.Ordinal.{signed, ordinals, text-ordinal, signed-number, number-ordinal, ordinal}
-use Rattle.primitive.specs.declared.epoch.SecAndNsec.{SecAndNsec}
+use Rattle.primitive.specs.declared.SecAndNsec.{SecAndNsec}
 use Rattle.forms.proofs.Walk.{Reads, Fails, Spaces, _⟨_⟩_, _⟨_⟩!_, at-once, first, _or_, _nor_, nothing, verified, behind-space, not-behind-space}
 use Rattle.forms.proofs.Leaves.{head, blanks-head, letter-no-digit, digit-no-letter, blank-no-digit, other, head-all, tag-read, tag-else, other-start, word-read, word-else, number-read, number-else, number-head, digit-still, number-still, seconds-read, seconds-else, word-still, blanks, still, signOf, sign-here, no-sign-here, sign-read, sign-else}
 use Rattle.primitive.proofs.Rows.{all, Number}

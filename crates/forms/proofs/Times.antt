@@ -12,7 +12,7 @@ use Rattle.primitive.specs.Answer.{_>>_, Reader, if, pure, verify, _>>=_}
 use Rattle.primitive.specs.Text.{bytes, blank, digit, starts}
 use Rattle.primitive.specs.Primitive.{spaced, colon, decimal, parse-uint, dec-uint}
 use Rattle.primitive.specs.Epoch.{fraction, sec-and-nsec}
-use Rattle.primitive.specs.declared.epoch.SecAndNsec.{SecAndNsec}
+use Rattle.primitive.specs.declared.SecAndNsec.{SecAndNsec}
 use Rattle.forms.proofs.Walk.{Reads, Fails, Spaces, _⟨_⟩_, _⟨_⟩!_, at-once, first, _or_, _nor_, nothing, verified, not-verified, behind-space, not-behind-space}
 use Rattle.forms.proofs.Leaves.{head, plain, tag-read, tag-else, other-start, number-read, number-still, str-read, blanks, still, digit-still, signOf, sign-read, sign-else, colon-read, fraction-else}
 use Rattle.primitive.proofs.Rows.{all, halves, Number}

@@ -40,13 +40,13 @@ pub(crate) fn parse_time_after_date(s: &[u8], at: usize, date: Date) -> ReadDate
 fn separator(s: &[u8], at: usize) -> ReadPlace
     ensures { λ r. ⌜ placeAnswer r ≡ separator (lowered (now (s .entry))) at ⌝ }
 {
-    if let ReadPlace::Match(next) = primitive::spaced_byte(s, at, 116) {
+    if let ReadPlace::Match(next) = spaces::spaced_byte(s, at, 116) {
         return ReadPlace::Match(next);
     }
     let ReadPlace::Match(next) = primitive::byte(s, at, 32) else {
         return ReadPlace::NoMatch;
     };
-    ReadPlace::Match(primitive::space(s, next))
+    ReadPlace::Match(spaces::space(s, next))
 }
 
 // An ISO time that no am or pm follows, or else any time.

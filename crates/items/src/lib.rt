@@ -67,7 +67,7 @@ pub struct Slot {
 pub fn parse_item(s: &[u8], at: usize) -> ReadItem
     ensures { λ r. ⌜ itemAnswer r ≡ parse-item (lowered (now (s .entry))) at ⌝ }
 {
-    let start = primitive::space(s, at);
+    let start = spaces::space(s, at);
     if s.len() <= start {
         return relative_item(s, start);
     }
@@ -104,10 +104,10 @@ fn iso_item(s: &[u8], at: usize) -> ReadItem
 fn iso_date(s: &[u8], at: usize) -> ReadDate
     ensures { λ r. ⌜ dateAnswer r ≡ iso-date (lowered (now (s .entry))) at ⌝ }
 {
-    if let ReadDate::Match(date, next) = dates::date::iso1(s, at) {
+    if let ReadDate::Match(date, next) = date_forms::iso1(s, at) {
         return ReadDate::Match(date, next);
     }
-    dates::date::iso2(s, at)
+    date_forms::iso2(s, at)
 }
 
 // A date with the time that follows it, or alone.
@@ -124,7 +124,7 @@ fn dated_item(s: &[u8], at: usize, date: Date) -> ReadItem
 fn other_item(s: &[u8], at: usize) -> ReadItem
     ensures { λ r. ⌜ itemAnswer r ≡ other-item (lowered (now (s .entry))) at ⌝ }
 {
-    let ReadDate::Match(date, next) = dates::date::parse_non_iso(s, at) else {
+    let ReadDate::Match(date, next) = date_forms::parse_non_iso(s, at) else {
         return time_or_relative(s, at);
     };
     ReadItem::Match(Item::Date(date), next)

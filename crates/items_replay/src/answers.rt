@@ -36,7 +36,7 @@ struct End {
 fn walk(text: &[u8], print: bool) -> End {
     let mut count = 0usize;
     let mut i = 0usize;
-    while primitive::space(text, i) < text.len() {
+    while spaces::space(text, i) < text.len() {
         let read = items::parse_item(text, i);
         match read {
             ReadItem::Match(item, next) => {

@@ -17,8 +17,8 @@ use Rattle.primitive.specs.Text.{byte}
 use Rattle.primitive.specs.Primitive.{space, spaced, decimal, parse-uint, dec-uint, dec-uint-str, colon, sign, plus-or-minus, alpha1, named}
 use Rattle.primitive.specs.Epoch.{sec-and-nsec, secAndNsecAnswer}
 use Rattle.primitive.specs.Ordinal.{signed, ordinals, text-ordinal, signed-number, number-ordinal, ordinal}
-use Rattle.primitive.specs.declared.epoch.SecAndNsec.{SecAndNsec}
-use Rattle.primitive.specs.declared.epoch.ReadSecAndNsec.the-variants as read-seconds
+use Rattle.primitive.specs.declared.SecAndNsec.{SecAndNsec}
+use Rattle.primitive.specs.declared.ReadSecAndNsec.the-variants as read-seconds
 use Rattle.primitive.proofs.Limits.{nsec-limit}
 use Rattle.primitive.proofs.Rows.{halves, both}
 use Rattle.dates.specs.Year.{widened, year-from-str, year-str}

@@ -19,11 +19,11 @@ use Rattle.primitive.specs.declared.ReadU32.{ReadU32}
 use Rattle.primitive.specs.declared.ReadU32.the-variants as u32
 use Rattle.primitive.specs.declared.ReadU64.{ReadU64}
 use Rattle.primitive.specs.declared.ReadU64.the-variants as u64
-use Rattle.primitive.specs.declared.ordinal.ReadI32.{ReadI32}
-use Rattle.primitive.specs.declared.ordinal.ReadI32.the-variants as i32
-use Rattle.primitive.specs.declared.epoch.SecAndNsec.{SecAndNsec}
-use Rattle.primitive.specs.declared.epoch.ReadSecAndNsec.{ReadSecAndNsec}
-use Rattle.primitive.specs.declared.epoch.ReadSecAndNsec.the-variants as seconds
+use Rattle.primitive.specs.declared.ReadI32.{ReadI32}
+use Rattle.primitive.specs.declared.ReadI32.the-variants as i32
+use Rattle.primitive.specs.declared.SecAndNsec.{SecAndNsec}
+use Rattle.primitive.specs.declared.ReadSecAndNsec.{ReadSecAndNsec}
+use Rattle.primitive.specs.declared.ReadSecAndNsec.the-variants as seconds
 use Rattle.primitive.specs.Epoch.{secAndNsecAnswer}
 use Rattle.primitive.specs.Ordinal.{i32Answer}
 

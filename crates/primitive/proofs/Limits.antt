@@ -21,11 +21,11 @@ use Rattle.primitive.specs.Epoch.{padded, nanoseconds, point-or-comma, f
 use Rattle.primitive.specs.Ordinal.{signed, ordinals, text-ordinal, signed-number, number-ordinal, ordinal, i32Answer}
 use Rattle.primitive.specs.declared.ReadPlace.{ReadPlace}
 use Rattle.primitive.specs.declared.ReadPlace.the-variants as place
-use Rattle.primitive.specs.declared.ordinal.ReadI32.{ReadI32}
-use Rattle.primitive.specs.declared.ordinal.ReadI32.the-variants as i32
-use Rattle.primitive.specs.declared.epoch.SecAndNsec.{SecAndNsec}
-use Rattle.primitive.specs.declared.epoch.ReadSecAndNsec.{ReadSecAndNsec}
-use Rattle.primitive.specs.declared.epoch.ReadSecAndNsec.the-variants as seconds
+use Rattle.primitive.specs.declared.ReadI32.{ReadI32}
+use Rattle.primitive.specs.declared.ReadI32.the-variants as i32
+use Rattle.primitive.specs.declared.SecAndNsec.{SecAndNsec}
+use Rattle.primitive.specs.declared.ReadSecAndNsec.{ReadSecAndNsec}
+use Rattle.primitive.specs.declared.ReadSecAndNsec.the-variants as seconds
 use Rattle.primitive.proofs.Forward.{run-le}
 use Rattle.primitive.proofs.Lowered.{length-lowered}
 use Rattle.primitive.proofs.Numbers.{number-limit}

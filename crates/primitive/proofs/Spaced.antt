@@ -9,9 +9,9 @@ use Rattle.primitive.specs.Primitive.{space, dec-uint-str, alpha1, slice
 use Rattle.primitive.specs.Epoch.{sec-and-nsec, secAndNsecAnswer}
 use Rattle.primitive.specs.declared.ReadPlace.{ReadPlace}
 use Rattle.primitive.specs.declared.ReadPlace.the-variants as place
-use Rattle.primitive.specs.declared.epoch.SecAndNsec.{SecAndNsec}
-use Rattle.primitive.specs.declared.epoch.ReadSecAndNsec.{ReadSecAndNsec}
-use Rattle.primitive.specs.declared.epoch.ReadSecAndNsec.the-variants as seconds
+use Rattle.primitive.specs.declared.SecAndNsec.{SecAndNsec}
+use Rattle.primitive.specs.declared.ReadSecAndNsec.{ReadSecAndNsec}
+use Rattle.primitive.specs.declared.ReadSecAndNsec.the-variants as seconds
 use Rattle.primitive.proofs.Chain.{slice-match, slice-none, seconds-match, seconds-none, chain}
 
 module _ (text : List ℕ) (at start : ℕ) (g : start ≡ space text at) {B : Type 0} where

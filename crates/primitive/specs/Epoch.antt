@@ -4,9 +4,9 @@ use mathlib.Core.List.{List, [], _∷_}
 use Rattle.primitive.specs.Answer.{Answer, Reader, matched, none, _>>=_, _>>_, _<|>_, pure, optional}
 use Rattle.primitive.specs.Text.{char}
 use Rattle.primitive.specs.Primitive.{decimal, dec-uint, dec-uint-str}
-use Rattle.primitive.specs.declared.epoch.SecAndNsec.{SecAndNsec}
-use Rattle.primitive.specs.declared.epoch.ReadSecAndNsec.{ReadSecAndNsec}
-use Rattle.primitive.specs.declared.epoch.ReadSecAndNsec.the-variants as got
+use Rattle.primitive.specs.declared.SecAndNsec.{SecAndNsec}
+use Rattle.primitive.specs.declared.ReadSecAndNsec.{ReadSecAndNsec}
+use Rattle.primitive.specs.declared.ReadSecAndNsec.the-variants as got
 
 -- the first k digits, with zeros behind them where there are fewer
 unfoldable pub padded : ℕ → List ℕ → List ℕ

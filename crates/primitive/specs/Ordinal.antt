@@ -6,8 +6,8 @@ use mathlib.Core.Bool.{Bool, true, false}
 use lib.IntN.{ℤ, pos, negℤ}
 use Rattle.primitive.specs.Answer.{Answer, Reader, matched, none, _>>=_, _>>_, _<|>_, pure, optional}
 use Rattle.primitive.specs.Primitive.{spaced, sign, dec-uint, alpha1, named}
-use Rattle.primitive.specs.declared.ordinal.ReadI32.{ReadI32}
-use Rattle.primitive.specs.declared.ordinal.ReadI32.the-variants as got
+use Rattle.primitive.specs.declared.ReadI32.{ReadI32}
+use Rattle.primitive.specs.declared.ReadI32.the-variants as got
 
 -- a number with its sign, true for minus
 unfoldable pub signed : Bool → ℕ → ℤ

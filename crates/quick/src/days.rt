@@ -147,5 +147,5 @@ fn month_name(s: &[u8], at: usize) -> ReadU8
     if s[end] != 32 {
         return ReadU8::NoMatch;
     }
-    dates::date::month_named(s, at, end)
+    months::month_named(s, at, end)
 }

@@ -40,7 +40,7 @@ pub(crate) fn shift(s: &[u8], at: usize) -> ReadShift
         return ReadShift::NoMatch;
     }
     let start = behind_sign(s, at);
-    let ReadU32::Match(n, end) = primitive::dec_u32(s, start) else {
+    let ReadU32::Match(n, end) = numbers::dec_u32(s, start) else {
         return ReadShift::NoMatch;
     };
     if start == at {

@@ -69,7 +69,7 @@ fn build_text(text: &[u8], base: ExtendedDateTime) -> Built
     let mut found = 0;
     let mut count = 0;
     let mut i = 0;
-    while primitive::space(text, i) < text.len() {
+    while spaces::space(text, i) < text.len() {
         let read = items::parse_item(text, i);
         match read {
             ReadItem::Match(item, next) => {

@@ -12,7 +12,7 @@ use lib.IntN.{ℤ}
 use Rattle.primitive.specs.Answer.{Answer, Reader, matched, none, if}
 use Rattle.primitive.specs.Text.{lower, lowered}
 use Rattle.primitive.specs.Primitive.{index}
-use Rattle.primitive.specs.declared.epoch.SecAndNsec.{SecAndNsec}
+use Rattle.primitive.specs.declared.SecAndNsec.{SecAndNsec}
 use Rattle.primitive.proofs.Lowered.{length-lowered, getD-lowered}
 use Rattle.primitive.proofs.Tables.{keys, values, named-in, named-out}
 use Rattle.relative.specs.Relative.{rounded, units, stripped, in-unit}

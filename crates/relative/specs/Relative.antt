@@ -12,7 +12,7 @@ use Rattle.primitive.specs.Text.{quoted}
 use Rattle.primitive.specs.Primitive.{spaced, plus-or-minus, alpha1, named}
 use Rattle.primitive.specs.Epoch.{sec-and-nsec}
 use Rattle.primitive.specs.Ordinal.{signed, ordinal}
-use Rattle.primitive.specs.declared.epoch.SecAndNsec.{SecAndNsec}
+use Rattle.primitive.specs.declared.SecAndNsec.{SecAndNsec}
 use Rattle.relative.specs.declared.Relative.{Relative}
 use Rattle.relative.specs.declared.Relative.the-variants.{Years, Months, Days, Hours, Minutes, Seconds}
 use Rattle.relative.specs.declared.ReadRelative.{ReadRelative}

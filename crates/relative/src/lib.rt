@@ -7,8 +7,8 @@
 
 use primitive::ReadPlace;
 use primitive::ReadSign;
-use primitive::epoch::ReadSecAndNsec;
-use primitive::ordinal::ReadI32;
+use primitive::ReadSecAndNsec;
+use primitive::ReadI32;
 ghost use mathlib.Core.Path.{_≡_};
 ghost use Prim.Native.Nat.{ℕ, _<_, _≤_, _^_};
 ghost use mathlib.Core.List.{List};
@@ -50,7 +50,7 @@ pub fn parse(s: &[u8], at: usize) -> ReadRelative
 pub(crate) fn seconds(s: &[u8], at: usize) -> ReadRelative
     ensures { λ r. ⌜ relativeAnswer r ≡ seconds (lowered (now (s .entry))) at ⌝ }
 {
-    if let ReadSign::Match(negative, next) = primitive::plus_or_minus(s, at) {
+    if let ReadSign::Match(negative, next) = spaces::plus_or_minus(s, at) {
         return signed_seconds(s, next, negative);
     }
     signed_seconds(s, at, false)
@@ -60,8 +60,8 @@ pub(crate) fn seconds(s: &[u8], at: usize) -> ReadRelative
 fn signed_seconds(s: &[u8], at: usize, negative: bool) -> ReadRelative
     ensures { λ r. ⌜ relativeAnswer r ≡ signed-seconds negative (lowered (now (s .entry))) at ⌝ }
 {
-    let start = primitive::space(s, at);
-    let ReadSecAndNsec::Match(v, at) = primitive::epoch::sec_and_nsec(s, start) else {
+    let start = spaces::space(s, at);
+    let ReadSecAndNsec::Match(v, at) = numbers::epoch::sec_and_nsec(s, start) else {
         return ReadRelative::NoMatch;
     };
     let ReadPlace::Match(at) = second_word(s, at) else {
@@ -82,11 +82,11 @@ fn signed_seconds(s: &[u8], at: usize, negative: bool) -> ReadRelative
 fn second_word(s: &[u8], at: usize) -> ReadPlace
     ensures { λ r. ⌜ placeAnswer r ≡ second-word (lowered (now (s .entry))) at ⌝ }
 {
-    let start = primitive::space(s, at);
+    let start = spaces::space(s, at);
     let ReadPlace::Match(end) = primitive::alpha1(s, start) else {
         return ReadPlace::NoMatch;
     };
-    let k = primitive::find_word(s, start, end, b"seconds second sec secs ");
+    let k = words::find_word(s, start, end, b"seconds second sec secs ");
     if k < 4 {
         ReadPlace::Match(end)
     } else {
@@ -119,7 +119,7 @@ fn rounded(negative: bool, sec: u64, nsec: u32) -> Relative
 pub(crate) fn displacement(s: &[u8], at: usize) -> ReadRelative
     ensures { λ r. ⌜ relativeAnswer r ≡ displacement (lowered (now (s .entry))) at ⌝ }
 {
-    if let ReadI32::Match(n, next) = primitive::ordinal::ordinal(s, at) {
+    if let ReadI32::Match(n, next) = words::ordinal::ordinal(s, at) {
         return displaced(s, next, n);
     }
     displaced(s, at, 1)
@@ -130,7 +130,7 @@ fn displaced(s: &[u8], at: usize, n: i32) -> ReadRelative
     requires { ⌜ mag (negℤ n) < 2 ^ 31 ⌝ }
     ensures { λ r. ⌜ relativeAnswer r ≡ displaced n (lowered (now (s .entry))) at ⌝ }
 {
-    let start = primitive::space(s, at);
+    let start = spaces::space(s, at);
     let ReadPlace::Match(end) = primitive::alpha1(s, start) else {
         return ReadRelative::NoMatch;
     };
@@ -152,7 +152,7 @@ fn in_unit(s: &[u8], start: usize, end: usize, n: i32, next: usize) -> ReadRelat
     ensures { λ r. ⌜ relativeAnswer r ≡ in-unit n (slice start end (lowered (now (s .entry)))) (lowered (now (s .entry))) next ⌝ }
 {
     let stem = strip_suffix(s, start, end);
-    let k = primitive::find_word(
+    let k = words::find_word(
         s,
         start,
         stem,
@@ -209,10 +209,10 @@ pub struct Towards {
 pub(crate) fn direction(s: &[u8], at: usize) -> Towards
     ensures { λ r. ⌜ matched (r .ago) (r .next) ≡ direction (lowered (now (s .entry))) at ⌝ }
 {
-    if let ReadPlace::Match(next) = primitive::spaced_tag(s, at, b"ago") {
+    if let ReadPlace::Match(next) = spaces::spaced_tag(s, at, b"ago") {
         return Towards { ago: true, next };
     }
-    if let ReadPlace::Match(next) = primitive::spaced_tag(s, at, b"hence") {
+    if let ReadPlace::Match(next) = spaces::spaced_tag(s, at, b"hence") {
         return Towards { ago: false, next };
     }
     Towards {

@@ -238,7 +238,7 @@ impl DateTimeBuilder {
     fn set_hour(self, digits: &[u8], from: usize, to: usize) -> Set
         ensures { λ r. ⌜ setOf r ≡ setHour (lowered (now (digits .entry))) self from to ⌝ }
     {
-        let ReadU64::Match(hour, _) = primitive::parse_uint(digits, from, to, 23) else {
+        let ReadU64::Match(hour, _) = numbers::parse_uint(digits, from, to, 23) else {
             return Set::Refused(8);
         };
         self.set_clock(hour as u8, 0)
@@ -247,10 +247,10 @@ impl DateTimeBuilder {
     fn set_hour_and_minute(self, digits: &[u8], from: usize, middle: usize, to: usize) -> Set
         ensures { λ r. ⌜ setOf r ≡ setHourAndMinute (lowered (now (digits .entry))) self from middle to ⌝ }
     {
-        let ReadU64::Match(hour, _) = primitive::parse_uint(digits, from, middle, 23) else {
+        let ReadU64::Match(hour, _) = numbers::parse_uint(digits, from, middle, 23) else {
             return Set::Refused(8);
         };
-        let ReadU64::Match(minute, _) = primitive::parse_uint(digits, middle, to, 59) else {
+        let ReadU64::Match(minute, _) = numbers::parse_uint(digits, middle, to, 59) else {
             return Set::Refused(8);
         };
         self.set_clock(hour as u8, minute as u8)

@@ -156,14 +156,14 @@ fn unless_fraction(s: &[u8], at: usize, r: ReadOffset) -> ReadOffset
 fn signed_fraction(s: &[u8], at: usize) -> ReadU32
     ensures { λ r. ⌜ u32Answer r ≡ signed-fraction (lowered (now (s .entry))) at ⌝ }
 {
-    let ReadSign::Match(_, at) = primitive::plus_or_minus(s, at) else {
+    let ReadSign::Match(_, at) = spaces::plus_or_minus(s, at) else {
         return ReadU32::NoMatch;
     };
-    let start = primitive::space(s, at);
+    let start = spaces::space(s, at);
     let ReadPlace::Match(at) = primitive::dec_uint_str(s, start) else {
         return ReadU32::NoMatch;
     };
-    let ReadU32::Match(nsec, next) = primitive::epoch::fraction(s, at) else {
+    let ReadU32::Match(nsec, next) = numbers::epoch::fraction(s, at) else {
         return ReadU32::NoMatch;
     };
     ReadU32::Match(nsec, next)
@@ -205,16 +205,16 @@ fn any_offset(s: &[u8], at: usize) -> ReadOffset
 fn timezone_offset_colon(s: &[u8], at: usize) -> ReadOffset
     ensures { λ r. ⌜ offsetAnswer r ≡ timezone-offset-colon (lowered (now (s .entry))) at ⌝ }
 {
-    let ReadSign::Match(negative, at) = primitive::plus_or_minus(s, at) else {
+    let ReadSign::Match(negative, at) = spaces::plus_or_minus(s, at) else {
         return ReadOffset::NoMatch;
     };
-    let ReadU8::Match(hours, at) = primitive::spaced_u8(s, at) else {
+    let ReadU8::Match(hours, at) = numbers::spaced_u8(s, at) else {
         return ReadOffset::NoMatch;
     };
-    let ReadPlace::Match(at) = primitive::colon(s, primitive::space(s, at)) else {
+    let ReadPlace::Match(at) = spaces::colon(s, spaces::space(s, at)) else {
         return ReadOffset::NoMatch;
     };
-    let ReadU8::Match(minutes, at) = primitive::spaced_u8(s, at) else {
+    let ReadU8::Match(minutes, at) = numbers::spaced_u8(s, at) else {
         return ReadOffset::NoMatch;
     };
     offset_of(negative, hours as u64, minutes as u64, at)
@@ -225,14 +225,14 @@ fn timezone_offset_colon(s: &[u8], at: usize) -> ReadOffset
 fn timezone_offset_colonless(s: &[u8], at: usize) -> ReadOffset
     ensures { λ r. ⌜ offsetAnswer r ≡ timezone-offset-colonless (lowered (now (s .entry))) at ⌝ }
 {
-    let ReadSign::Match(negative, at) = primitive::plus_or_minus(s, at) else {
+    let ReadSign::Match(negative, at) = spaces::plus_or_minus(s, at) else {
         return ReadOffset::NoMatch;
     };
-    let start = primitive::space(s, at);
+    let start = spaces::space(s, at);
     let ReadPlace::Match(end) = primitive::dec_uint_str(s, start) else {
         return ReadOffset::NoMatch;
     };
-    let ReadU64::Match(n, next) = primitive::parse_uint(s, start, end, 9999) else {
+    let ReadU64::Match(n, next) = numbers::parse_uint(s, start, end, 9999) else {
         return ReadOffset::NoMatch;
     };
     digits_offset(negative, end - start, n, next)

@@ -8,7 +8,7 @@ use crate::offset::Offset;
 use crate::offset::ReadOffset;
 use primitive::ReadPlace;
 use primitive::ReadU8;
-use primitive::epoch::ReadSecAndNsec;
+use primitive::ReadSecAndNsec;
 ghost use mathlib.Core.Path.{_≡_};
 ghost use Prim.Native.Nat.{_+_, _%_};
 ghost use Rattle.primitive.specs.Answer.{matched, if};
@@ -89,7 +89,7 @@ pub fn iso(s: &[u8], at: usize) -> ReadTime
     let ReadU8::Match(hour, at) = hour24(s, at) else {
         return ReadTime::NoMatch;
     };
-    let ReadPlace::Match(next) = primitive::colon(s, at) else {
+    let ReadPlace::Match(next) = spaces::colon(s, at) else {
         return hour_offset(s, at, hour);
     };
     clock(s, next, hour)
@@ -188,16 +188,16 @@ fn hour_of(hour: u8, pm: bool) -> u8
 pub(crate) fn meridiem(s: &[u8], at: usize) -> ReadMeridiem
     ensures { λ r. ⌜ meridiemAnswer r ≡ meridiem (lowered (now (s .entry))) at ⌝ }
 {
-    if let ReadPlace::Match(next) = primitive::spaced_tag(s, at, b"am") {
+    if let ReadPlace::Match(next) = spaces::spaced_tag(s, at, b"am") {
         return ReadMeridiem::Match(false, next);
     }
-    if let ReadPlace::Match(next) = primitive::spaced_tag(s, at, b"a.m.") {
+    if let ReadPlace::Match(next) = spaces::spaced_tag(s, at, b"a.m.") {
         return ReadMeridiem::Match(false, next);
     }
-    if let ReadPlace::Match(next) = primitive::spaced_tag(s, at, b"pm") {
+    if let ReadPlace::Match(next) = spaces::spaced_tag(s, at, b"pm") {
         return ReadMeridiem::Match(true, next);
     }
-    if let ReadPlace::Match(next) = primitive::spaced_tag(s, at, b"p.m.") {
+    if let ReadPlace::Match(next) = spaces::spaced_tag(s, at, b"p.m.") {
         return ReadMeridiem::Match(true, next);
     }
     ReadMeridiem::NoMatch
@@ -206,7 +206,7 @@ pub(crate) fn meridiem(s: &[u8], at: usize) -> ReadMeridiem
 fn optional_minute(s: &[u8], at: usize) -> FoundMinute
     ensures { λ r. ⌜ matched (r .minute) (r .next) ≡ optional-minute (lowered (now (s .entry))) at ⌝ }
 {
-    if let ReadPlace::Match(start) = primitive::colon(s, at) {
+    if let ReadPlace::Match(start) = spaces::colon(s, at) {
         if let ReadU8::Match(minute, next) = minute(s, start) {
             return FoundMinute { minute, next };
         }
@@ -220,7 +220,7 @@ fn optional_minute(s: &[u8], at: usize) -> FoundMinute
 fn optional_second(s: &[u8], at: usize) -> FoundSecond
     ensures { λ r. ⌜ matched (r .value) (r .next) ≡ optional-second (lowered (now (s .entry))) at ⌝ }
 {
-    if let ReadPlace::Match(start) = primitive::colon(s, at) {
+    if let ReadPlace::Match(start) = spaces::colon(s, at) {
         if let ReadSecNsec::Match(value, next) = second(s, start) {
             return FoundSecond { value, next };
         }
@@ -256,7 +256,7 @@ pub(crate) fn minute(s: &[u8], at: usize) -> ReadU8
 fn below(s: &[u8], at: usize, limit: u8) -> ReadU8
     ensures { λ r. ⌜ u8Answer r ≡ below limit (lowered (now (s .entry))) at ⌝ }
 {
-    let ReadU8::Match(v, next) = primitive::spaced_u8(s, at) else {
+    let ReadU8::Match(v, next) = numbers::spaced_u8(s, at) else {
         return ReadU8::NoMatch;
     };
     if v < limit {
@@ -270,8 +270,8 @@ fn below(s: &[u8], at: usize, limit: u8) -> ReadU8
 pub(crate) fn second(s: &[u8], at: usize) -> ReadSecNsec
     ensures { λ r. ⌜ secNsecAnswer r ≡ second (lowered (now (s .entry))) at ⌝ }
 {
-    let start = primitive::space(s, at);
-    let ReadSecAndNsec::Match(v, next) = primitive::epoch::sec_and_nsec(s, start) else {
+    let start = spaces::space(s, at);
+    let ReadSecAndNsec::Match(v, next) = numbers::epoch::sec_and_nsec(s, start) else {
         return ReadSecNsec::NoMatch;
     };
     let sec = v.sec;
