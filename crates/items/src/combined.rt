@@ -55,7 +55,7 @@ fn combined_time(s: &[u8], at: usize) -> ReadTime
 {
     match iso_alone(s, at) {
         ReadTime::Match(time, next) => ReadTime::Match(time, next),
-        ReadTime::NoMatch => times::time::parse(s, at),
+        ReadTime::NoMatch => time_forms::parse(s, at),
         ReadTime::Stop => ReadTime::Stop,
     }
 }
@@ -64,7 +64,7 @@ fn combined_time(s: &[u8], at: usize) -> ReadTime
 fn iso_alone(s: &[u8], at: usize) -> ReadTime
     ensures { λ r. ⌜ timeAnswer r ≡ attempt iso-alone (lowered (now (s .entry))) at ⌝ }
 {
-    match times::time::iso(s, at) {
+    match time_forms::iso(s, at) {
         ReadTime::Match(time, next) => unless_meridiem(s, next, time),
         ReadTime::NoMatch => ReadTime::NoMatch,
         ReadTime::Stop => ReadTime::NoMatch,

@@ -133,7 +133,7 @@ fn other_item(s: &[u8], at: usize) -> ReadItem
 fn time_or_relative(s: &[u8], at: usize) -> ReadItem
     ensures { λ r. ⌜ itemAnswer r ≡ time-or-relative (lowered (now (s .entry))) at ⌝ }
 {
-    match times::time::parse(s, at) {
+    match time_forms::parse(s, at) {
         ReadTime::Match(t, next) => ReadItem::Match(Item::Time(t), next),
         ReadTime::NoMatch => relative_item(s, at),
         ReadTime::Stop => ReadItem::Stop,

@@ -66,7 +66,7 @@ fn turn(input: &mut [u8], output: &mut [u8], at: Standing) -> Standing {
     if at.begun {
         return answer(input, output, at);
     }
-    let line = lines_lib::first_line_end(&input[from..end]);
+    let line = line_ends::first_line_end(&input[from..end]);
     if line == end - from {
         return read_on(input, at);
     }
@@ -126,7 +126,7 @@ fn read_on(input: &mut [u8], mut at: Standing) -> Standing {
     if !at.more {
         return ended(at);
     }
-    let have = lines_lib::keep(input, at.from, at.end);
+    let have = line_ends::keep(input, at.from, at.end);
     if input.len() <= have {
         return ended(at);
     }

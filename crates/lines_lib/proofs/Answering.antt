@@ -15,7 +15,7 @@ use Rattle.reading.specs.Reading.{readText}
 use Rattle.lines_lib.specs.Answers.{lineAnswer, putAt, Put}
 use Rattle.lines_lib.specs.Lines.{lineLength, wholeLines, answers, fitting, answered, unlines, wanting}
 use Rattle.lines_lib.proofs.Putting.{put-behind, part-put}
-use Rattle.lines_lib.proofs.Splitting.{whole-none, whole-more}
+use Rattle.line_ends.proofs.Splitting.{whole-none, whole-more}
 
 no-room : (base : ExtendedDateTime) (room : ℕ) (ls : List (List ℕ)) → room < 44 → fitting base room ls ≡ []
 unfolding fitting

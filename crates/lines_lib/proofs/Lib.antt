@@ -2,9 +2,7 @@
 pub mod Widths
 pub mod Putting
 pub mod Part
-pub mod Splitting
 pub mod Answering
-pub mod Keeping
 pub mod Chunks
 pub mod Turns
 pub mod Running

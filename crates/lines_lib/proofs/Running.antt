@@ -16,7 +16,7 @@ use Rattle.reading.specs.Reading.{readText}
 use Rattle.lines_lib.specs.Answers.{lineAnswer}
 use Rattle.lines_lib.specs.Lines.{lineLength, answers, answered, unlines, wanting, epoch, output}
 use Rattle.lines_lib.specs.Turns.{rest, full, Prints, again, read, close, end, Begins, seek, close-first, nothing, begin, refuse, joined}
-use Rattle.lines_lib.proofs.Splitting.{line-inside}
+use Rattle.line_ends.proofs.Splitting.{line-inside}
 use Rattle.lines_lib.proofs.Answering.{answered-none, answered-more}
 use Rattle.lines_lib.proofs.Chunks.{covers, unended-later, unended-take}
 use Rattle.lines_lib.proofs.Turns.{whole}

@@ -9,6 +9,8 @@ use Rattle.extended.specs.declared.ExtendedDateTime.{ExtendedDateTime}
 use Rattle.primitive.specs.Answer.{if}
 use Rattle.rules.specs.Placed.{Placed, fine, refusal}
 use Rattle.writer.specs.Writer.{digits, written, bytesOf}
+pub use Rattle.line_ends.specs.Put.{Put}
+unfoldable pub use Rattle.line_ends.specs.Put.{putAt}
 
 -- "number and place". A blank is 32, and byte 10 ends the line
 unfoldable pub refusalLine : ℕ → ℕ → List ℕ
@@ -22,12 +24,3 @@ writtenLine o = if (ltb 0 (number o)) (refusalLine (number o) 0) (48 ∷ 32 ∷ 
 unfoldable pub lineAnswer : Placed ExtendedDateTime → List ℕ
 lineAnswer (fine r) = writtenLine (written r 41)
 lineAnswer (refusal n at) = refusalLine n at
-
--- a text at a place of a row of bytes; the others stay
-unfoldable pub putAt : List ℕ → ℕ → List ℕ → List ℕ
-putAt text at out = take at out ++ (text ++ drop (at + length text) out)
-
--- a step that puts a text at a place, answers the place behind it, and leaves the other bytes
-pub record Put (text : List ℕ) (at : ℕ) (out : List ℕ) (next : ℕ) (result : List ℕ) : Type 0 where
-  pub place : next ≡ at + length text
-  pub bytes : result ≡ putAt text at out

@@ -1,31 +1,23 @@
-// The answers of the line program, on slices: what is printed for a line, for the whole lines of a chunk of input, and what is kept of a
-// line that has not ended.
+// The answers of the line program, on slices: what is printed for a line, and for the whole lines of a chunk of input.
 
 use builder::Built;
 use extended::ExtendedDateTime;
 use writer::Written;
 ghost use mathlib.Core.Path.{_≡_};
-ghost use mathlib.Core.Bool.{false};
 ghost use mathlib.Core.List.{[], _∷_};
-ghost use Prim.Native.Nat.{_+_, _-_, _≤_, _<_, min};
-ghost use lib.ListN.{length, drop};
+ghost use Prim.Native.Nat.{_+_, _-_, _≤_, _<_};
+ghost use lib.ListN.{length};
 ghost use Rattle.extended.specs.Outcome.{number};
 ghost use Rattle.builder.specs.Building.{builtOf};
 ghost use Rattle.reading.specs.Reading.{readText};
 ghost use Rattle.writer.specs.Writer.{width, digits, written, bytesOf};
 ghost use Rattle.lines_lib.specs.Answers.{refusalLine, writtenLine, lineAnswer, Put};
-ghost use Rattle.lines_lib.specs.Lines.{epoch, lineLength, answers, answered, unlines, wanting, kept};
+ghost use Rattle.lines_lib.specs.Lines.{epoch, answers, answered, unlines, wanting};
 
 // An answer has no more bytes: number 0, a blank, a text of 41 bytes and byte 10.
 pub const LONGEST_ANSWER: usize = 44;
 
-// What is kept of a line: one byte more than the longest text that is read.
-pub const LONGEST_LINE: usize = 4097;
-
 const NEWLINE: u8 = 10;
-
-// How many bytes are tested at once for the end of a line.
-const BLOCK: usize = 16;
 
 // How far the lines of a chunk are answered: the bytes of the chunk that are taken, the bytes of answers, and whether the answers stopped
 // for want of room.
@@ -52,7 +44,7 @@ pub fn put_answers(chunk: &[u8], base: ExtendedDateTime, out: &mut [u8]) -> Prog
                 full: true,
             };
         }
-        let end = line_end(chunk, taken);
+        let end = line_ends::line_end(chunk, taken);
         if end == chunk.len() {
             return Progress {
                 taken,
@@ -70,34 +62,6 @@ pub fn put_answers(chunk: &[u8], base: ExtendedDateTime, out: &mut [u8]) -> Prog
     }
 }
 
-// Moves a line that has not ended to the front, no more of it than decides its answer, and answers how much that is.
-pub fn keep(buffer: &mut [u8], from: usize, end: usize) -> usize
-    ensures { λ r. ⌜ Put (kept (now (buffer .entry)) from end) 0 (now (buffer .entry)) r (now (buffer .exit)) ⌝ }
-{
-    if end < from {
-        return 0;
-    }
-    if buffer.len() < end {
-        return 0;
-    }
-    let n = least(end - from, LONGEST_LINE);
-    let mut i = 0;
-    while i < n {
-        buffer[i] = buffer[from + i];
-        i += 1;
-    }
-    n
-}
-
-fn least(a: usize, b: usize) -> usize
-    ensures { λ r. ⌜ r ≡ min a b ⌝ }
-{
-    if a < b {
-        return a;
-    }
-    b
-}
-
 // The base of line 1.
 pub fn epoch() -> ExtendedDateTime
     ensures { λ r. ⌜ r ≡ epoch ⌝ }
@@ -112,59 +76,6 @@ pub fn epoch() -> ExtendedDateTime
         nanosecond: 0,
         offset_seconds: 0,
     }
-}
-
-// Where the first line ends: at a byte 10, or with the bytes.
-pub fn first_line_end(bytes: &[u8]) -> usize
-    ensures { λ r. ⌜ (r ≡ lineLength (now (bytes .entry))) × (r ≤ length (now (bytes .entry))) ⌝ }
-{
-    line_end(bytes, 0)
-}
-
-// Where the line that begins at `from` ends: at a byte 10, or with the bytes. Goes by blocks of 16 bytes to the one that ends it.
-fn line_end(bytes: &[u8], from: usize) -> usize
-    requires { ⌜ from ≤ length (now bytes) ⌝ }
-    ensures { λ r. ⌜ (r ≡ from + lineLength (drop from (now (bytes .entry)))) × (from ≤ r) × (r ≤ length (now (bytes .entry))) ⌝ }
-{
-    let mut i = from;
-    while BLOCK <= bytes.len() - i {
-        if ends_within(bytes, i) {
-            return line_end_near(bytes, i);
-        }
-        i += BLOCK;
-    }
-    line_end_near(bytes, i)
-}
-
-// Whether a byte 10 is among the 16 bytes from a place on. Looks at each of them, so that the compiler tests them all at once.
-fn ends_within(bytes: &[u8], at: usize) -> bool
-    requires { ⌜ at + 16 ≤ length (now bytes) ⌝ }
-    ensures { λ r. ⌜ (r ≡ false → lineLength (drop at (now (bytes .entry))) ≡ 16 + lineLength (drop (at + 16) (now (bytes .entry)))) ⌝ }
-{
-    let mut found = false;
-    let mut j = 0;
-    while j < BLOCK {
-        if bytes[at + j] == NEWLINE {
-            found = true;
-        }
-        j += 1;
-    }
-    found
-}
-
-// Where the line that begins at `from` ends, sought byte by byte.
-fn line_end_near(bytes: &[u8], from: usize) -> usize
-    requires { ⌜ from ≤ length (now bytes) ⌝ }
-    ensures { λ r. ⌜ (r ≡ from + lineLength (drop from (now (bytes .entry)))) × (from ≤ r) × (r ≤ length (now (bytes .entry))) ⌝ }
-{
-    let mut i = from;
-    while i < bytes.len() {
-        if bytes[i] == NEWLINE {
-            return i;
-        }
-        i += 1;
-    }
-    i
 }
 
 // The answer to a line.

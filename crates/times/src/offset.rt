@@ -132,7 +132,7 @@ fn offset_of(negative: bool, hours: u64, minutes: u64, next: usize) -> ReadOffse
 
 // The correction that follows a time of day. A unit of time behind it changes nothing: `12:00 +3 hours` is 12:00 at +03:00, and `hours`.
 // A number with a fraction is no correction: `12:00 +1.5 seconds`.
-pub(crate) fn time_zone_correction(s: &[u8], at: usize) -> ReadOffset
+pub fn time_zone_correction(s: &[u8], at: usize) -> ReadOffset
     ensures { λ r. ⌜ offsetAnswer r ≡ time-zone-correction (lowered (now (s .entry))) at ⌝ }
 {
     match any_offset(s, at) {
@@ -171,7 +171,7 @@ fn signed_fraction(s: &[u8], at: usize) -> ReadU32
 
 // An offset, unless a relative item stands there: `+8 years` is no offset. The relative item is looked for only where there is an
 // offset, or one out of range.
-pub(crate) fn timezone_offset(s: &[u8], start: usize) -> ReadOffset
+pub fn timezone_offset(s: &[u8], start: usize) -> ReadOffset
     ensures { λ r. ⌜ offsetAnswer r ≡ timezone-offset (lowered (now (s .entry))) start ⌝ }
 {
     match any_offset(s, start) {

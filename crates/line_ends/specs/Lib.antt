@@ -1,0 +1,3 @@
+-- The definitions of the crate `line_ends`.
+pub mod Put
+pub mod Lines
