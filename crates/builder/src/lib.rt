@@ -195,7 +195,7 @@ fn forwarded(weekday: Weekday, today: u32, dt: ExtendedDateTime) -> Made
     ensures { λ r. ⌜ madeOf r ≡ forwarded weekday today dt ⌝ }
 {
     match delta(weekday, today) {
-        Days::Add(days) => dt.checked_add_days(days),
+        Days::Add(days) => sums::checked_add_days(dt, days),
         Days::Refused(number) => Made::Refused(number),
     }
 }
@@ -302,11 +302,11 @@ fn add_relative(relative: Relative, dt: ExtendedDateTime) -> Made
     ensures { λ r. ⌜ madeOf r ≡ addRelative relative dt ⌝ }
 {
     match relative {
-        Relative::Years(years) => dt.checked_add_years(years),
-        Relative::Months(months) => dt.checked_add_months(months),
-        Relative::Days(days) => dt.checked_add_days(integers::widen(days)),
-        Relative::Hours(hours) => dt.checked_add_hours(integers::widen(hours)),
-        Relative::Minutes(minutes) => dt.checked_add_minutes(integers::widen(minutes)),
+        Relative::Years(years) => sums::checked_add_years(dt, years),
+        Relative::Months(months) => sums::checked_add_months(dt, months),
+        Relative::Days(days) => sums::checked_add_days(dt, integers::widen(days)),
+        Relative::Hours(hours) => sums::checked_add_hours(dt, integers::widen(hours)),
+        Relative::Minutes(minutes) => sums::checked_add_minutes(dt, integers::widen(minutes)),
         Relative::Seconds(seconds, nanos) => dt.checked_add_seconds(seconds, nanos),
     }
 }
@@ -324,7 +324,7 @@ fn on_zone(given: GivenZone, dt: ExtendedDateTime) -> Made
 fn with_zone(zone: Normalized, dt: ExtendedDateTime) -> Made
     ensures { λ r. ⌜ madeOf r ≡ withZone zone dt ⌝ }
 {
-    let made = dt.checked_add_hours(zone.hour_adjustment);
+    let made = sums::checked_add_hours(dt, zone.hour_adjustment);
     let Made::Record(dt) = made else {
         return made;
     };

@@ -108,13 +108,13 @@ fn answer_record(name: u64, r: ExtendedDateTime, a: &[u64; 13]) {
 fn added(name: u64, r: ExtendedDateTime, a: &[u64; 13]) -> Made {
     let count = numbers::i64_at(a, 9);
     if name == ADD_DAYS {
-        return r.checked_add_days(count);
+        return sums::checked_add_days(r, count);
     }
     if name == ADD_HOURS {
-        return r.checked_add_hours(count);
+        return sums::checked_add_hours(r, count);
     }
     if name == ADD_MINUTES {
-        return r.checked_add_minutes(count);
+        return sums::checked_add_minutes(r, count);
     }
     if name == ADD_SECONDS {
         return r.checked_add_seconds(count, numbers::u32_at(a, 10));
@@ -125,10 +125,10 @@ fn added(name: u64, r: ExtendedDateTime, a: &[u64; 13]) -> Made {
 fn moved(name: u64, r: ExtendedDateTime, a: &[u64; 13]) -> Made {
     let count = numbers::narrowed(numbers::i64_at(a, 9));
     if name == ADD_YEARS {
-        return r.checked_add_years(count);
+        return sums::checked_add_years(r, count);
     }
     if name == ADD_MONTHS {
-        return r.checked_add_months(count);
+        return sums::checked_add_months(r, count);
     }
     if name == WITH_OFFSET {
         return r.with_offset(count);

@@ -8,17 +8,14 @@ ghost use Prim.Native.Nat.{_+_, _-_, _*_, _<_, _≤_};
 ghost use lib.IntN.{pos, _-ℤ_};
 ghost use Rattle.extended.specs.Outcome.{Outcome, accepted, number};
 ghost use Rattle.calendar.specs.Calendar.{daysOfMonths, dayNumber};
-ghost use Rattle.extended.specs.Extended.{madeOf, secondsOf, countOf, make, blank, date, time, dateOf, timeOf, testDate, testTime, testOffset, test, testYear, accept, clockSeconds, moment, unixSeconds, fromClock, fromUnixSeconds, withDate, withTime, withOffset, carried, addSeconds, addUnits, addDays, addHours, addMinutes, clamp, addYears, addMonths, dayOfYear, weekdaySunday0, weekdayMonday0};
+ghost use Rattle.extended.specs.Extended.{madeOf, secondsOf, countOf, make, blank, date, time, dateOf, timeOf, testDate, testTime, testOffset, test, testYear, accept, clockSeconds, moment, unixSeconds, fromClock, fromUnixSeconds, withDate, withTime, withOffset, carried, addSeconds, dayOfYear, weekdaySunday0, weekdayMonday0};
 use calendar::civil_from_days;
 pub use calendar::days_in_month;
 pub use calendar::is_leap_year;
 use integers::Checked;
-use integers::Natural;
 
 // The largest year that is accepted.
 pub const GNU_MAX_YEAR: u32 = 2147485547;
-
-const SECONDS_PER_DAY: u32 = 86400;
 
 #[repr(C)]
 pub struct ExtendedDateTime {
@@ -158,38 +155,6 @@ impl ExtendedDateTime {
         ExtendedDateTime::new(self.date(), self.time(), offset_seconds)
     }
 
-    pub fn checked_add_days(self, days: i64) -> Made
-        ensures { λ r. ⌜ madeOf r ≡ addDays self days ⌝ }
-    {
-        self.checked_add_units(days, SECONDS_PER_DAY)
-    }
-
-    pub fn checked_add_hours(self, hours: i64) -> Made
-        ensures { λ r. ⌜ madeOf r ≡ addHours self hours ⌝ }
-    {
-        self.checked_add_units(hours, 3600)
-    }
-
-    pub fn checked_add_minutes(self, minutes: i64) -> Made
-        ensures { λ r. ⌜ madeOf r ≡ addMinutes self minutes ⌝ }
-    {
-        self.checked_add_units(minutes, 60)
-    }
-
-    // `count` units of `worth` seconds each.
-    fn checked_add_units(self, count: i64, worth: u32) -> Made
-        ensures { λ r. ⌜ madeOf r ≡ addUnits worth self count ⌝ }
-    {
-        let refusal = self.refusal();
-        if refusal > 0 {
-            return Made::Refused(refusal);
-        }
-        let Checked::Fits(seconds) = integers::checked_mul(count, worth) else {
-            return Made::Refused(18);
-        };
-        self.checked_add_seconds(seconds, 0)
-    }
-
     pub fn checked_add_seconds(self, delta_seconds: i64, delta_nanoseconds: u32) -> Made
         ensures { λ r. ⌜ madeOf r ≡ addSeconds self «delta_seconds» «delta_nanoseconds» ⌝ }
     {
@@ -205,58 +170,6 @@ impl ExtendedDateTime {
             return Made::Refused(18);
         }
         carry(unix, nanosecond as u32, self.offset_seconds)
-    }
-
-    pub fn checked_add_years(self, years: i32) -> Made
-        ensures { λ r. ⌜ madeOf r ≡ addYears self years ⌝ }
-    {
-        let refusal = self.refusal();
-        if refusal > 0 {
-            return Made::Refused(refusal);
-        }
-        let Checked::Fits(sum) = integers::checked_add(self.year as i64, years as i64) else {
-            return Made::Refused(18);
-        };
-        let Natural::At(year) = integers::to_natural(sum) else {
-            return Made::Refused(10);
-        };
-        self.clamped(year, self.month)
-    }
-
-    pub fn checked_add_months(self, months: i32) -> Made
-        ensures { λ r. ⌜ madeOf r ≡ addMonths self months ⌝ }
-    {
-        let refusal = self.refusal();
-        if refusal > 0 {
-            return Made::Refused(refusal);
-        }
-        let before = months_before(self.year, self.month);
-        let Checked::Fits(sum) = integers::checked_add(before, months as i64) else {
-            return Made::Refused(18);
-        };
-        let Natural::At(total) = integers::to_natural(sum) else {
-            return Made::Refused(10);
-        };
-        self.clamped(total / 12, (total % 12 + 1) as u8)
-    }
-
-    // The same day of another month, or its last day and as many days more as were lost.
-    fn clamped(self, year: u64, month: u8) -> Made
-        ensures { λ r. ⌜ madeOf r ≡ clamp self year month ⌝ }
-    {
-        let refusal = year_refusal(year);
-        if refusal > 0 {
-            return Made::Refused(refusal);
-        }
-        let max_day = days_in_month(year as u32, month);
-        if self.day <= max_day {
-            return self.with_date(year as u32, month, self.day);
-        }
-        let next = self.with_date(year as u32, month, max_day);
-        let Made::Record(next) = next else {
-            return next;
-        };
-        next.checked_add_days((self.day - max_day) as i64)
     }
 
     pub fn day_of_year(self) -> DayCount
@@ -434,7 +347,7 @@ fn offset_refusal(offset_seconds: i32) -> u32
 }
 
 // The Rust's quirk: a year that no u32 holds is refused as a negative one is.
-fn year_refusal(year: u64) -> u32
+pub fn year_refusal(year: u64) -> u32
     ensures { λ r. ⌜ r ≡ number (testYear year) ⌝ }
 {
     if year > 4294967295 {
@@ -488,14 +401,6 @@ fn since_epoch(clock: u64, offset_seconds: i32) -> i64
     ensures { λ r. ⌜ r ≡ pos clock -ℤ «offset_seconds» -ℤ pos 62167219200 ⌝ }
 {
     clock as i64 - offset_seconds as i64 - 62167219200
-}
-
-// The months from 0000-01 to a month.
-fn months_before(year: u32, month: u8) -> i64
-    requires { ⌜ 1 ≤ month ⌝ }
-    ensures { λ r. ⌜ r ≡ pos (year * 12 + (month - 1)) ⌝ }
-{
-    ((year as u64) * 12 + (month - 1) as u64) as i64
 }
 
 // The days of the months of `year` before `month`: those of months on a line, less what February is shorter than on it.

@@ -299,11 +299,11 @@ fn moved(dt: ExtendedDateTime, unit: TimeUnit, n: i32) -> Made
     ensures { λ r. ⌜ madeOf r ≡ addRelative (relativeOf unit n) dt ⌝ }
 {
     match unit {
-        TimeUnit::Year => dt.checked_add_years(n),
-        TimeUnit::Month => dt.checked_add_months(n),
-        TimeUnit::Week => dt.checked_add_days(n as i64 * 7),
-        TimeUnit::Day => dt.checked_add_days(n as i64),
-        TimeUnit::Hour => dt.checked_add_hours(n as i64),
+        TimeUnit::Year => sums::checked_add_years(dt, n),
+        TimeUnit::Month => sums::checked_add_months(dt, n),
+        TimeUnit::Week => sums::checked_add_days(dt, n as i64 * 7),
+        TimeUnit::Day => sums::checked_add_days(dt, n as i64),
+        TimeUnit::Hour => sums::checked_add_hours(dt, n as i64),
         TimeUnit::Second => dt.checked_add_seconds(n as i64, 0),
     }
 }

@@ -129,21 +129,21 @@ pub extern "C" fn seqtullo_unix_seconds(record: Record) -> Moment
 pub extern "C" fn seqtullo_add_days(record: Record, days: i64) -> Answer
     ensures { λ r. ⌜ r ≡ recordAnswer (addDays «record» days) ⌝ }
 {
-    record_answer(record.checked_add_days(days))
+    record_answer(sums::checked_add_days(record, days))
 }
 
 #[no_mangle]
 pub extern "C" fn seqtullo_add_hours(record: Record, hours: i64) -> Answer
     ensures { λ r. ⌜ r ≡ recordAnswer (addHours «record» hours) ⌝ }
 {
-    record_answer(record.checked_add_hours(hours))
+    record_answer(sums::checked_add_hours(record, hours))
 }
 
 #[no_mangle]
 pub extern "C" fn seqtullo_add_minutes(record: Record, minutes: i64) -> Answer
     ensures { λ r. ⌜ r ≡ recordAnswer (addMinutes «record» minutes) ⌝ }
 {
-    record_answer(record.checked_add_minutes(minutes))
+    record_answer(sums::checked_add_minutes(record, minutes))
 }
 
 #[no_mangle]
@@ -157,14 +157,14 @@ pub extern "C" fn seqtullo_add_seconds(record: Record, seconds: i64, nanoseconds
 pub extern "C" fn seqtullo_add_years(record: Record, years: i32) -> Answer
     ensures { λ r. ⌜ r ≡ recordAnswer (addYears «record» years) ⌝ }
 {
-    record_answer(record.checked_add_years(years))
+    record_answer(sums::checked_add_years(record, years))
 }
 
 #[no_mangle]
 pub extern "C" fn seqtullo_add_months(record: Record, months: i32) -> Answer
     ensures { λ r. ⌜ r ≡ recordAnswer (addMonths «record» months) ⌝ }
 {
-    record_answer(record.checked_add_months(months))
+    record_answer(sums::checked_add_months(record, months))
 }
 
 // 0 for Monday to 6 for Sunday.

@@ -3,8 +3,8 @@ use native.Mathlib.Omega.{arith}
 use mir.Syntax.{w64}
 use mir.Facts.{toZ-pos}
 use borrow.Author.Needs.{needs}
-use Rattle.extended.proofs.months_before.Statement.{statement}
-use Rattle.extended.proofs.months_before.Tie as tie
+use Rattle.sums.proofs.months_before.Statement.{statement}
+use Rattle.sums.proofs.months_before.Tie as tie
 
 mul-result : tie.Need-mul-result
 mul-result c = search needs

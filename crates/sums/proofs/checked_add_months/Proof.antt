@@ -1,4 +1,4 @@
--- `ExtendedDateTime::checked_add_months` meets its contract: the sum, its sign, then the clamped date. Assumes nothing.
+-- `checked_add_months` meets its contract: the sum, its sign, then the clamped date. Assumes nothing.
 use Prim.Native.Nat.{_*_, _+_, _-_}
 use mathlib.Core.Path.{_≡_, sym}
 use native.Mathlib.Omega.{arith}
@@ -7,16 +7,16 @@ use mir.Syntax.{w64}
 use mir.Val.{SFits}
 use mir.Facts.{toZ-ofZ}
 use borrow.Author.Needs.{needs}
 use Rattle.extended.proofs.Outcomes.{passed, refused-by}
 use Rattle.extended.proofs.Records.{facts, record-proper}
 use Rattle.extended.specs.Extended.{addMonths, test}
 use Rattle.extended.specs.Outcome.{accepted}
 use Rattle.integers.specs.Integers.{naturalOf, sum}
-use Rattle.extended.proofs.ExtendedDateTime.checked_add_months.Statement.{statement}
-use Rattle.extended.proofs.ExtendedDateTime.checked_add_months.Tie as tie
+use Rattle.sums.proofs.checked_add_months.Statement.{statement}
+use Rattle.sums.proofs.checked_add_months.Tie as tie
 
-ok : (c : tie.Else1) → test (c .before .before .args .self) ≡ accepted tt
-ok c = passed (record-proper (c .before .before .args .self)) (c .before .refusal .ensures) (c .if1 .left)
+ok : (c : tie.Else1) → test (c .before .before .args .dt) ≡ accepted tt
+ok c = passed (record-proper (c .before .before .args .dt)) (c .before .refusal .ensures) (c .if1 .left)
 
 wide : (c : tie.Start) → SFits w64 (c .args .months)
 wide c = record { sfits = omega (arith, c .fits .months .sfits) }
@@ -24,7 +24,7 @@ wide c = record { sfits = omega (arith, c .fits .months .sfits) }
 before-fits : (c : tie.After-months-before) → SFits w64 (c .months-before .result)
 before-fits c = search needs
 
-sum-is : (c : tie.After-checked-add) → let r = c .before .before .before .before .args .self in c .checked-add .result ≡ sum (pos (r .year * 12 + (r .month - 1))) (c .before .before .before .before .args .months)
+sum-is : (c : tie.After-checked-add) → let r = c .before .before .before .before .args .dt in c .checked-add .result ≡ sum (pos (r .year * 12 + (r .month - 1))) (c .before .before .before .before .args .months)
 sum-is c = rw (toZ-ofZ (before-fits (c .before)), c .before .months-before .ensures, toZ-ofZ (c .before .before .before .before .fits .months), toZ-ofZ (wide (c .before .before .before .before))) at (c .checked-add .ensures)
 
 sum-fits : (c : tie.After-known-told) → SFits w64 (c .before .sum .given .0 .0)
@@ -38,10 +38,10 @@ refusal-requires c κs = search needs
 
 returns : tie.Need-returns
 unfolding addMonths
-returns c = simp (refused-by (test (c .before .before .args .self)) (c .before .refusal .ensures) (c .if1 .taken))
+returns c = simp (refused-by (test (c .before .before .args .dt)) (c .before .refusal .ensures) (c .if1 .taken))
 
 months-before-requires : tie.Need-months-before-requires
-months-before-requires c κs = facts (c .before .before .args .self) (ok c) .date .month-low
+months-before-requires c κs = facts (c .before .before .args .dt) (ok c) .date .month-low
 
 cast-checked-add : tie.Need-cast-checked-add
 cast-checked-add c = rw (toZ-ofZ (c .before .before .before .fits .months)) (wide (c .before .before .before))

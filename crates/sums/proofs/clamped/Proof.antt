@@ -1,4 +1,4 @@
--- `ExtendedDateTime::clamped` meets its contract: where no day is lost none is added, which leaves the record as it is.
+-- `clamped` meets its contract: where no day is lost none is added, which leaves the record as it is.
 -- Assumes nothing.
 use Prim.Native.Nat.{_-_, _≤_, min, ℕ}
 use mathlib.Core.Path.{_∙_, _≡_, refl, sym}
@@ -7,15 +7,15 @@ use lib.IntN.{pos}
 use mir.Syntax.{w64}
 use mir.Facts.{toZ-pos}
 use borrow.Author.Needs.{needs}
 use Rattle.extended.proofs.Adding.{no-days}
 use Rattle.extended.proofs.Outcomes.{passed, refused-by}
 use Rattle.extended.proofs.Records.{tested, year-fact, year-proper}
 use Rattle.calendar.specs.Calendar.{monthDays}
 use Rattle.extended.specs.Extended.{accept, addDays, clamp, date, madeOf, make, test, testYear, timeOf, withDate}
 use Rattle.extended.specs.Outcome.{Outcome, _>>=_, _>>_, accepted, refused}
 use Rattle.extended.specs.declared.ExtendedDateTime.{ExtendedDateTime}
-use Rattle.extended.proofs.ExtendedDateTime.clamped.Statement.{statement}
-use Rattle.extended.proofs.ExtendedDateTime.clamped.Tie as tie
+use Rattle.sums.proofs.clamped.Statement.{statement}
+use Rattle.sums.proofs.clamped.Tie as tie
 
 year-ok : (c : tie.Else1) → testYear (c .before .before .args .year) ≡ accepted tt
 year-ok c = passed (year-proper (c .before .before .args .year)) (c .before .year-refusal .ensures) (c .if1 .left)
@@ -43,7 +43,7 @@ none-lost r y m h =
     let x = make (date y m (r .day)) (timeOf r) (r .«offset_seconds») in
     rw (e, z) (kept (test r) x (test x) (no-days x))
 
-last-day : (c : tie.After-with-date2) → let a = c .before .before .before .before .before .before .args in madeOf (c .with-date2 .result) ≡ withDate (a .self) (date (a .year) (a .month) (monthDays (a .year) (a .month)))
+last-day : (c : tie.After-with-date2) → let a = c .before .before .before .before .before .before .args in madeOf (c .with-date2 .result) ≡ withDate (a .dt) (date (a .year) (a .month) (monthDays (a .year) (a .month)))
 last-day c = rw (c .before .before .before .days-in-month .ensures) at (c .with-date2 .ensures)
 
 year-refusal-requires : tie.Need-year-refusal-requires
@@ -69,7 +69,7 @@ returns-2 : tie.Need-returns-2
 unfolding clamp
 returns-2 c =
     let a = c .before .before .before .before .before .before .args in
-    simp (year-ok (c .before .before .before .before)) (c .with-date .ensures ∙ sym (none-lost (a .self) (a .year) (a .month) (omega arith)))
+    simp (year-ok (c .before .before .before .before)) (c .with-date .ensures ∙ sym (none-lost (a .dt) (a .year) (a .month) (omega arith)))
 
 cast-with-date-2 : tie.Need-cast-with-date-2
 cast-with-date-2 c = record { fits = omega (arith, small (c .before .before .before)) }
@@ -87,7 +87,7 @@ returns-3 : tie.Need-returns-3
 unfolding clamp
 returns-3 c =
     let a = c .before .before .before .before .before .before .before .before .args in
-    simp (year-ok (c .before .before .before .before .before .before), at-most (a .self) (a .year) (a .month) (omega arith), sym (last-day (c .before .before)), c .enum-told .given .1)
+    simp (year-ok (c .before .before .before .before .before .before), at-most (a .dt) (a .year) (a .month) (omega arith), sym (last-day (c .before .before)), c .enum-told .given .1)
 
 sub-checked-add-days : tie.Need-sub-checked-add-days
 sub-checked-add-days c = search needs
@@ -103,8 +103,8 @@ unfolding clamp
 returns-4 c =
     let a = c .before .before .before .before .before .before .before .before .before .before .before .args in
     let d = c .before .before .before .before .before .before .before .before .days-in-month .ensures in
-    simp (year-ok (c .before .before .before .before .before .before .before .before .before), at-most (a .self) (a .year) (a .month) (omega arith), sym (last-day (c .before .before .before .before .before)), c .before .before .before .next .given .1)
-    (rw (toZ-pos w64 {n = a .self .day - c .before .before .before .before .before .before .before .before .days-in-month .result} (omega arith), d) at (c .checked-add-days .ensures))
+    simp (year-ok (c .before .before .before .before .before .before .before .before .before), at-most (a .dt) (a .year) (a .month) (omega arith), sym (last-day (c .before .before .before .before .before)), c .before .before .before .next .given .1)
+    (rw (toZ-pos w64 {n = a .dt .day - c .before .before .before .before .before .before .before .before .days-in-month .result} (omega arith), d) at (c .checked-add-days .ensures))
 
 pub clamped-spec : {M : Type 1} → statement M
 clamped-spec =

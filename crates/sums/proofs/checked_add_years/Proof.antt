@@ -1,4 +1,4 @@
--- `ExtendedDateTime::checked_add_years` meets its contract: the sum, its sign, then the clamped date. Assumes nothing.
+-- `checked_add_years` meets its contract: the sum, its sign, then the clamped date. Assumes nothing.
 use Prim.Native.Nat.{_≤_}
 use mathlib.Core.Path.{_≡_, sym}
 use native.Mathlib.Omega.{arith}
@@ -7,25 +7,25 @@ use mir.Syntax.{w64}
 use mir.Val.{SFits}
 use mir.Facts.{toZ-ofZ, toZ-pos}
 use borrow.Author.Needs.{needs}
 use Rattle.extended.proofs.Outcomes.{passed, refused-by}
 use Rattle.extended.proofs.Records.{facts, record-proper}
 use Rattle.extended.specs.Extended.{addYears, test}
 use Rattle.extended.specs.Outcome.{accepted}
 use Rattle.integers.specs.Integers.{naturalOf, sum}
-use Rattle.extended.proofs.ExtendedDateTime.checked_add_years.Statement.{statement}
-use Rattle.extended.proofs.ExtendedDateTime.checked_add_years.Tie as tie
+use Rattle.sums.proofs.checked_add_years.Statement.{statement}
+use Rattle.sums.proofs.checked_add_years.Tie as tie
 
-ok : (c : tie.Else1) → test (c .before .before .args .self) ≡ accepted tt
-ok c = passed (record-proper (c .before .before .args .self)) (c .before .refusal .ensures) (c .if1 .left)
+ok : (c : tie.Else1) → test (c .before .before .args .dt) ≡ accepted tt
+ok c = passed (record-proper (c .before .before .args .dt)) (c .before .refusal .ensures) (c .if1 .left)
 
 wide : (c : tie.Start) → SFits w64 (c .args .years)
 wide c = record { sfits = omega (arith, c .fits .years .sfits) }
 
-year-small : (c : tie.Else1) → c .before .before .args .self .year ≤ 2147485547
-year-small c = facts (c .before .before .args .self) (ok c) .year-high
+year-small : (c : tie.Else1) → c .before .before .args .dt .year ≤ 2147485547
+year-small c = facts (c .before .before .args .dt) (ok c) .year-high
 
-sum-is : (c : tie.After-checked-add) → let r = c .before .before .before .before .args .self in c .checked-add .result ≡ sum (pos (r .year)) (c .before .before .before .before .args .years)
-sum-is c = rw (toZ-pos w64 {n = c .before .before .before .before .args .self .year} (omega (arith, year-small (c .before .before))), toZ-ofZ (c .before .before .before .before .fits .years), toZ-ofZ (wide (c .before .before .before .before))) at (c .checked-add .ensures)
+sum-is : (c : tie.After-checked-add) → let r = c .before .before .before .before .args .dt in c .checked-add .result ≡ sum (pos (r .year)) (c .before .before .before .before .args .years)
+sum-is c = rw (toZ-pos w64 {n = c .before .before .before .before .args .dt .year} (omega (arith, year-small (c .before .before))), toZ-ofZ (c .before .before .before .before .fits .years), toZ-ofZ (wide (c .before .before .before .before))) at (c .checked-add .ensures)
 
 sum-fits : (c : tie.After-known-told) → SFits w64 (c .before .sum .given .0 .0)
 sum-fits c = search needs
@@ -38,7 +38,7 @@ refusal-requires c κs = search needs
 
 returns : tie.Need-returns
 unfolding addYears
-returns c = simp (refused-by (test (c .before .before .args .self)) (c .before .refusal .ensures) (c .if1 .taken))
+returns c = simp (refused-by (test (c .before .before .args .dt)) (c .before .refusal .ensures) (c .if1 .taken))
 
 cast-checked-add : tie.Need-cast-checked-add
 cast-checked-add c = search needs

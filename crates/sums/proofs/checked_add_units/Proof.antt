@@ -1,20 +1,20 @@
--- `ExtendedDateTime::checked_add_units` meets its contract: the product, then the seconds. Assumes nothing.
+-- `checked_add_units` meets its contract: the product, then the seconds. Assumes nothing.
 use mathlib.Core.Path.{_≡_, sym}
 use lib.IntN.{pos}
 use mir.Syntax.{w64}
 use mir.Val.{SFits}
 use mir.Facts.{toZ-ofZ}
 use borrow.Author.Needs.{needs}
 use Rattle.extended.proofs.Outcomes.{passed, refused-by}
 use Rattle.extended.proofs.Records.{record-proper}
 use Rattle.extended.specs.Extended.{addUnits, test}
 use Rattle.extended.specs.Outcome.{accepted}
 use Rattle.integers.specs.Integers.{product}
-use Rattle.extended.proofs.ExtendedDateTime.checked_add_units.Statement.{statement}
-use Rattle.extended.proofs.ExtendedDateTime.checked_add_units.Tie as tie
+use Rattle.sums.proofs.checked_add_units.Statement.{statement}
+use Rattle.sums.proofs.checked_add_units.Tie as tie
 
-ok : (c : tie.Else1) → test (c .before .before .args .self) ≡ accepted tt
-ok c = passed (record-proper (c .before .before .args .self)) (c .before .refusal .ensures) (c .if1 .left)
+ok : (c : tie.Else1) → test (c .before .before .args .dt) ≡ accepted tt
+ok c = passed (record-proper (c .before .before .args .dt)) (c .before .refusal .ensures) (c .if1 .left)
 
 product-is : (c : tie.After-checked-mul) → c .checked-mul .result ≡ product (c .before .before .before .args .count) (pos (c .before .before .before .args .worth))
 product-is c = rw (toZ-ofZ (c .before .before .before .fits .count)) at (c .checked-mul .ensures)
@@ -27,7 +27,7 @@ refusal-requires c κs = search needs
 
 returns : tie.Need-returns
 unfolding addUnits
-returns c = simp (refused-by (test (c .before .before .args .self)) (c .before .refusal .ensures) (c .if1 .taken))
+returns c = simp (refused-by (test (c .before .before .args .dt)) (c .before .refusal .ensures) (c .if1 .taken))
 
 checked-mul-requires : tie.Need-checked-mul-requires
 checked-mul-requires c κs = search needs
