@@ -90,7 +90,7 @@ fn build_items(packet: &[u8], count: usize, digits: &[u8], base: ExtendedDateTim
                 let place = more.place;
                 relatives[found] = place;
                 found += more.count;
-                used += fields::digits_used(item);
+                used += items_of_fields::digits_used(item);
                 i += 1;
             }
             Found::Bad => {
@@ -112,10 +112,10 @@ fn next_item(packet: &[u8], index: usize, digits: &[u8], used: usize) -> Found
     ensures { λ r. ⌜ foundOf r ≡ itemAt (now (packet .entry)) (lowered (now (digits .entry))) index used ⌝ }
 {
     let found = packet_item(packet, index as u32);
-    let Found::Item(item) = found.unpack(used as u16) else {
+    let Found::Item(item) = items_of_fields::unpack(found, used as u16) else {
         return Found::Bad;
     };
-    if digits_stand(digits, used, fields::digits_used(item)) {
+    if digits_stand(digits, used, items_of_fields::digits_used(item)) {
         return Found::Item(item);
     }
     Found::Bad
