@@ -73,7 +73,7 @@ fn build_items(packet: &[u8], count: usize, digits: &[u8], base: ExtendedDateTim
     requires { ⌜ length (now digits) < 65536 ⌝ }
     ensures { λ r. ⌜ builtOf r ≡ buildItems (now (packet .entry)) (lowered (now (digits .entry))) count base ⌝ }
 {
-    let mut standing = rules::start();
+    let mut standing = heeding::start();
     let none = RelativePlace {
         relative: Relative::Days(0),
     };
@@ -85,8 +85,8 @@ fn build_items(packet: &[u8], count: usize, digits: &[u8], base: ExtendedDateTim
         let read = next_item(packet, i, digits, used);
         match read {
             Found::Item(item) => {
-                standing = rules::heed(standing, digits, item, i);
-                let more = rules::relative_of(item);
+                standing = heeding::heed(standing, digits, item, i);
+                let more = heeding::relative_of(item);
                 let place = more.place;
                 relatives[found] = place;
                 found += more.count;

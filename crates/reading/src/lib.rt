@@ -61,7 +61,7 @@ fn is_ascii(byte: u8) -> bool
 fn build_text(text: &[u8], base: ExtendedDateTime) -> Built
     ensures { λ r. ⌜ builtOf r ≡ buildText (lowered (now (text .entry))) base ⌝ }
 {
-    let mut standing = rules::start();
+    let mut standing = heeding::start();
     let none = RelativePlace {
         relative: Relative::Days(0),
     };
@@ -76,8 +76,8 @@ fn build_text(text: &[u8], base: ExtendedDateTime) -> Built
                 if count == 64 {
                     return Built::Refused(1, 0);
                 }
-                standing = rules::heed(standing, &text[0..0], item, count);
-                let more = rules::relative_of(item);
+                standing = heeding::heed(standing, &text[0..0], item, count);
+                let more = heeding::relative_of(item);
                 let place = more.place;
                 relatives[found] = place;
                 found += more.count;

@@ -1,9 +1,9 @@
 -- `set_pure` is its definition. Assumes nothing.
 use borrow.Author.Needs.{needs}
-use Rattle.rules.proofs.DateTimeBuilder.set_pure.Statement.{statement}
-use Rattle.rules.proofs.DateTimeBuilder.set_pure.Tie as tie
+use Rattle.heeding.proofs.set_pure.Statement.{statement}
+use Rattle.heeding.proofs.set_pure.Tie as tie
 use Rattle.rules.proofs.Cases.{cases}
 use Rattle.rules.specs.Rules.{setPure}
 
 enum-known-given : tie.Need-enum-known-given
 enum-known-given c = search needs

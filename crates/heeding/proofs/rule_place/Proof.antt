@@ -1,8 +1,8 @@
 -- `rule_place` is its definition. Assumes nothing.
-use Rattle.rules.proofs.rule_place.Statement.{statement}
-use Rattle.rules.proofs.rule_place.Tie as tie
+use Rattle.heeding.proofs.rule_place.Statement.{statement}
+use Rattle.heeding.proofs.rule_place.Tie as tie
 use Rattle.rules.proofs.Cases.{cases}
 use Rattle.rules.specs.Rules.{rulePlace}
 
 returns : tie.Need-returns
 returns c = search cases

@@ -1,8 +1,8 @@
 -- `ruled` is its definition. Assumes nothing.
 use borrow.Author.Needs.{needs}
-use Rattle.rules.proofs.ruled.Statement.{statement}
-use Rattle.rules.proofs.ruled.Tie as tie
+use Rattle.heeding.proofs.ruled.Statement.{statement}
+use Rattle.heeding.proofs.ruled.Tie as tie
 use Rattle.rules.proofs.Cases.{cases}
 
 enum-known-set : tie.Need-enum-known-set
 enum-known-set c = search needs

@@ -1,9 +1,9 @@
 -- `set_pure_time` is its definition. Assumes nothing.
 use borrow.Author.Needs.{needs}
-use Rattle.rules.proofs.DateTimeBuilder.set_pure_time.Statement.{statement}
-use Rattle.rules.proofs.DateTimeBuilder.set_pure_time.Tie as tie
+use Rattle.heeding.proofs.set_pure_time.Statement.{statement}
+use Rattle.heeding.proofs.set_pure_time.Tie as tie
 use Rattle.rules.proofs.Cases.{cases}
 use Rattle.rules.specs.Rules.{setPureTime}
 
 returns : tie.Need-returns
 unfolding setPureTime

@@ -1,8 +1,8 @@
 -- `heed` is its definition. Assumes nothing.
 use borrow.Author.Needs.{needs}
-use Rattle.rules.proofs.heed.Statement.{statement}
-use Rattle.rules.proofs.heed.Tie as tie
+use Rattle.heeding.proofs.heed.Statement.{statement}
+use Rattle.heeding.proofs.heed.Tie as tie
 use Rattle.rules.proofs.Cases.{cases}
 
 enum-known-standing : tie.Need-enum-known-standing
 enum-known-standing c = search needs

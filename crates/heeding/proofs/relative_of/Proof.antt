@@ -1,8 +1,8 @@
 -- `relative_of` is its definition. Assumes nothing.
 use borrow.Author.Needs.{needs}
-use Rattle.rules.proofs.relative_of.Statement.{statement}
-use Rattle.rules.proofs.relative_of.Tie as tie
+use Rattle.heeding.proofs.relative_of.Statement.{statement}
+use Rattle.heeding.proofs.relative_of.Tie as tie
 use Rattle.rules.proofs.Cases.{cases}
 
 enum-known-item : tie.Need-enum-known-item
 enum-known-item c = search needs

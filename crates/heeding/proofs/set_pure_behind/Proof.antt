@@ -1,8 +1,8 @@
 -- `set_pure_behind` is its definition. Assumes nothing.
 use borrow.Author.Needs.{needs}
-use Rattle.rules.proofs.DateTimeBuilder.set_pure_behind.Statement.{statement}
-use Rattle.rules.proofs.DateTimeBuilder.set_pure_behind.Tie as tie
+use Rattle.heeding.proofs.set_pure_behind.Statement.{statement}
+use Rattle.heeding.proofs.set_pure_behind.Tie as tie
 use Rattle.rules.proofs.Cases.{cases}
 
 enum-told : tie.Need-enum-told
 enum-told c = search needs

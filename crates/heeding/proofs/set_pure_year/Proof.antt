@@ -1,9 +1,9 @@
 -- `set_pure_year` is its definition. Assumes nothing.
 use borrow.Author.Needs.{needs}
-use Rattle.rules.proofs.DateTimeBuilder.set_pure_year.Statement.{statement}
-use Rattle.rules.proofs.DateTimeBuilder.set_pure_year.Tie as tie
+use Rattle.heeding.proofs.set_pure_year.Statement.{statement}
+use Rattle.heeding.proofs.set_pure_year.Tie as tie
 use Rattle.rules.proofs.Cases.{cases}
 use Rattle.rules.specs.Rules.{setPureYear}
 
 year-from-str-requires : tie.Need-year-from-str-requires
 year-from-str-requires c κs = search needs
