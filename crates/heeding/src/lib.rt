@@ -174,7 +174,13 @@ fn set_hour(builder: DateTimeBuilder, digits: &[u8], from: usize, to: usize) -> 
     set_clock(builder, hour as u8, 0)
 }
 
-fn set_hour_and_minute(builder: DateTimeBuilder, digits: &[u8], from: usize, middle: usize, to: usize) -> Set
+fn set_hour_and_minute(
+    builder: DateTimeBuilder,
+    digits: &[u8],
+    from: usize,
+    middle: usize,
+    to: usize,
+) -> Set
     ensures { λ r. ⌜ setOf r ≡ setHourAndMinute (lowered (now (digits .entry))) builder from middle to ⌝ }
 {
     let ReadU64::Match(hour, _) = numbers::parse_uint(digits, from, middle, 23) else {

@@ -5,10 +5,10 @@
 // - Weeks and fortnights are days. A number of days that no i32 holds is no match.
 // - The words `tomorrow`, `yesterday`, `today` and `now` are not read.
 
-use primitive::ReadPlace;
-use primitive::ReadSign;
-use primitive::ReadSecAndNsec;
 use primitive::ReadI32;
+use primitive::ReadPlace;
+use primitive::ReadSecAndNsec;
+use primitive::ReadSign;
 ghost use mathlib.Core.Path.{_≡_};
 ghost use Prim.Native.Nat.{ℕ, _<_, _≤_, _^_};
 ghost use mathlib.Core.List.{List};
