@@ -70,7 +70,7 @@ loop-again c =
     let l = c .before .before .before .before .before .before .before .before .before .loop in
     let e = c .before .before .before .before .before .before .line-end in
     let p = c .before .before .put-line in
-    going-on (l .inv) (e .result) (p .result) (p .last .1 .1 .0) (e .ensures .0) (c .before .before .before .before .before .if2 .left) (e .ensures .2) (search needs) (p .ensures .0) (p .ensures .1)
+    going-on (l .inv) (e .result) (p .result) (p .last .1 .1 .0) (e .ensures .0) (c .before .before .before .before .before .if2 .left) (search needs) (search needs) (p .ensures .0) (p .ensures .1)
 
 same-length-3 : tie.Need-same-length-3 Inv-loop μ-loop
 same-length-3 c = search needs
