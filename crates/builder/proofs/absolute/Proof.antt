@@ -7,7 +7,7 @@ use Rattle.builder.specs.Building.{absolute}
 use Rattle.builder.specs.Building.{absolute}
 
 start-requires : tie.Need-start-requires
-start-requires c κs = search needs
+start-requires c κs = tt
 
 enum-known-made : tie.Need-enum-known-made
 enum-known-made c = search needs
@@ -20,7 +20,7 @@ unfolding absolute
 returns c = search cases
 
 on-date-requires : tie.Need-on-date-requires
-on-date-requires c κs = search needs
+on-date-requires c κs = tt
 
 enum-known-made-2 : tie.Need-enum-known-made-2
 enum-known-made-2 c = search needs
@@ -33,7 +33,7 @@ unfolding absolute
 returns-2 c = search cases
 
 on-time-requires : tie.Need-on-time-requires
-on-time-requires c κs = search needs
+on-time-requires c κs = tt
 
 enum-known-made-3 : tie.Need-enum-known-made-3
 enum-known-made-3 c = search needs
@@ -46,7 +46,7 @@ unfolding absolute
 returns-3 c = search cases
 
 on-weekday-requires : tie.Need-on-weekday-requires
-on-weekday-requires c κs = search needs
+on-weekday-requires c κs = tt
 
 returns-4 : tie.Need-returns-4
 unfolding absolute

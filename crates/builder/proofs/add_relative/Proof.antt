@@ -50,13 +50,13 @@ enum-known-relative : tie.Need-enum-known-relative
 enum-known-relative c = search needs
 
 checked-add-years-requires : tie.Need-checked-add-years-requires
-checked-add-years-requires c κs = search needs
+checked-add-years-requires c κs = tt
 
 enum-known-relative-2 : tie.Need-enum-known-relative-2
 enum-known-relative-2 c = search needs
 
 checked-add-months-requires : tie.Need-checked-add-months-requires
-checked-add-months-requires c κs = search needs
+checked-add-months-requires c κs = tt
 
 enum-known-relative-3 : tie.Need-enum-known-relative-3
 enum-known-relative-3 c = search needs
@@ -65,7 +65,7 @@ widen-requires : tie.Need-widen-requires
 widen-requires c κs = search needs
 
 checked-add-days-requires : tie.Need-checked-add-days-requires
-checked-add-days-requires c κs = search needs
+checked-add-days-requires c κs = tt
 
 enum-known-relative-4 : tie.Need-enum-known-relative-4
 enum-known-relative-4 c = search needs
@@ -74,7 +74,7 @@ widen-requires-2 : tie.Need-widen-requires-2
 widen-requires-2 c κs = search needs
 
 checked-add-hours-requires : tie.Need-checked-add-hours-requires
-checked-add-hours-requires c κs = search needs
+checked-add-hours-requires c κs = tt
 
 enum-known-relative-5 : tie.Need-enum-known-relative-5
 enum-known-relative-5 c = search needs
@@ -83,13 +83,13 @@ widen-requires-3 : tie.Need-widen-requires-3
 widen-requires-3 c κs = search needs
 
 checked-add-minutes-requires : tie.Need-checked-add-minutes-requires
-checked-add-minutes-requires c κs = search needs
+checked-add-minutes-requires c κs = tt
 
 enum-known-relative-6 : tie.Need-enum-known-relative-6
 enum-known-relative-6 c = search needs
 
 checked-add-seconds-requires : tie.Need-checked-add-seconds-requires
-checked-add-seconds-requires c κs = search needs
+checked-add-seconds-requires c κs = tt
 
 returns : tie.Need-returns
 returns c = search cases

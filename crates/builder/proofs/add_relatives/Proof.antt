@@ -17,7 +17,7 @@ abbrev μ-loop : tie.MeasureT-loop
 μ-loop count relatives last dt₀ i₀ dt i = last - i
 
 at-most-64-requires : tie.Need-at-most-64-requires Inv-loop μ-loop
-at-most-64-requires c κs = search needs
+at-most-64-requires c κs = tt
 
 loop-holds : tie.Need-loop-holds Inv-loop μ-loop
 loop-holds c =
@@ -33,7 +33,7 @@ array-copy-out-place : tie.Need-array-copy-out-place Inv-loop μ-loop
 array-copy-out-place c = search needs
 
 add-relative-requires : tie.Need-add-relative-requires Inv-loop μ-loop
-add-relative-requires c κs = search needs
+add-relative-requires c κs = tt
 
 enum-known-next : tie.Need-enum-known-next Inv-loop μ-loop
 enum-known-next c = search needs

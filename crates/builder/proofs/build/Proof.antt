@@ -8,10 +8,10 @@ enum-known-standing : tie.Need-enum-known-standing
 enum-known-standing c = search needs
 
 build-extended-requires : tie.Need-build-extended-requires
-build-extended-requires c κs = search needs
+build-extended-requires c κs = tt
 
 placed-requires : tie.Need-placed-requires
-placed-requires c κs = search needs
+placed-requires c κs = tt
 
 enum-known-standing-2 : tie.Need-enum-known-standing-2
 enum-known-standing-2 c = search needs

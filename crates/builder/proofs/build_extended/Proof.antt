@@ -16,7 +16,7 @@ first c =
     rw (none-given (a .count) (a .relatives) h) (c .absolute .ensures)
 
 absolute-requires : tie.Need-absolute-requires
-absolute-requires c κs = search needs
+absolute-requires c κs = tt
 
 enum-known-made : tie.Need-enum-known-made
 enum-known-made c = search needs
@@ -29,7 +29,7 @@ unfolding buildExtended
 returns c = made-kept _ _ _ (first (c .before .before)) _ (c .enum-told .given .1)
 
 add-relatives-requires : tie.Need-add-relatives-requires
-add-relatives-requires c κs = search needs
+add-relatives-requires c κs = tt
 
 enum-known-made-2 : tie.Need-enum-known-made-2
 enum-known-made-2 c = search needs
@@ -44,7 +44,7 @@ returns-2 c =
     (made-kept _ _ _ (c .before .before .add-relatives .ensures) _ (c .enum-told2 .given .1))
 
 on-zone-requires : tie.Need-on-zone-requires
-on-zone-requires c κs = search needs
+on-zone-requires c κs = tt
 
 returns-3 : tie.Need-returns-3
 unfolding buildExtended

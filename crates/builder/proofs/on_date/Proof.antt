@@ -15,10 +15,10 @@ returns : tie.Need-returns
 returns c = search cases
 
 year-or-requires : tie.Need-year-or-requires
-year-or-requires c κs = search needs
+year-or-requires c κs = tt
 
 with-date-requires : tie.Need-with-date-requires
-with-date-requires c κs = search needs
+with-date-requires c κs = tt
 
 returns-2 : tie.Need-returns-2
 returns-2 c = search cases

@@ -14,10 +14,10 @@ returns : tie.Need-returns
 returns c = search cases
 
 total-seconds-requires : tie.Need-total-seconds-requires
-total-seconds-requires c κs = search needs
+total-seconds-requires c κs = tt
 
 with-offset-requires : tie.Need-with-offset-requires
-with-offset-requires c κs = search needs
+with-offset-requires c κs = tt
 
 returns-2 : tie.Need-returns-2
 returns-2 c = search cases

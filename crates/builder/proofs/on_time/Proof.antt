@@ -15,7 +15,7 @@ returns : tie.Need-returns
 returns c = search cases
 
 on-offset-requires : tie.Need-on-offset-requires
-on-offset-requires c κs = search needs
+on-offset-requires c κs = tt
 
 enum-known-made : tie.Need-enum-known-made
 enum-known-made c = search needs

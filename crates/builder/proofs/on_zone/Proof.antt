@@ -9,10 +9,10 @@ enum-known-given : tie.Need-enum-known-given
 enum-known-given c = search needs
 
 normalize-requires : tie.Need-normalize-requires
-normalize-requires c κs = search needs
+normalize-requires c κs = tt
 
 with-zone-requires : tie.Need-with-zone-requires
-with-zone-requires c κs = search needs
+with-zone-requires c κs = tt
 
 enum-told : tie.Need-enum-told
 enum-told c = search needs

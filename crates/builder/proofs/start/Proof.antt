@@ -7,7 +7,7 @@ use Rattle.builder.specs.Building.{start}
 use Rattle.builder.specs.Building.{start}
 
 need-midnight-requires : tie.Need-need-midnight-requires
-need-midnight-requires c κs = search needs
+need-midnight-requires c κs = tt
 
 with-time-requires : tie.Need-with-time-requires
 with-time-requires c κs = search needs
@@ -17,7 +17,7 @@ unfolding start
 returns c = search cases
 
 accept-requires : tie.Need-accept-requires
-accept-requires c κs = search needs
+accept-requires c κs = tt
 
 returns-2 : tie.Need-returns-2
 unfolding start

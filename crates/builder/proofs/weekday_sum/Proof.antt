@@ -39,7 +39,7 @@ tested-2 : (c : tie.After-in-i322) → c .in-i322 .result ≡ inI32 (c .before .
 tested-2 c = rw (toZ-ofZ (days2-fit (c .before))) at (c .in-i322 .ensures)
 
 checked-mul-requires : tie.Need-checked-mul-requires
-checked-mul-requires c κs = search needs
+checked-mul-requires c κs = tt
 
 enum-known-days : tie.Need-enum-known-days
 enum-known-days c = search needs
@@ -51,7 +51,7 @@ returns : tie.Need-returns
 returns c = product-over _ _ (sym (product-is (c .before .before)) ∙ c .enum-told .given .1)
 
 in-i32-requires : tie.Need-in-i32-requires
-in-i32-requires c κs = search needs
+in-i32-requires c κs = tt
 
 returns-2 : tie.Need-returns-2
 returns-2 c = product-far _ _ _ (first (c .before .before)) (turned-true _ (c .if1 .taken) ∙ tested (c .before))
@@ -60,7 +60,7 @@ cast-checked-add : tie.Need-cast-checked-add
 cast-checked-add c = search needs
 
 checked-add-requires : tie.Need-checked-add-requires
-checked-add-requires c κs = search needs
+checked-add-requires c κs = tt
 
 enum-known-days-2 : tie.Need-enum-known-days-2
 enum-known-days-2 c = search needs
@@ -74,7 +74,7 @@ returns-3 c =
     sum-over _ _ _ (first (e .before .before)) (turned-false _ (e .if1 .left) ∙ tested (e .before)) (sym (sum-is (c .before .before)) ∙ c .enum-told2 .given .1)
 
 in-i32-requires-2 : tie.Need-in-i32-requires-2
-in-i32-requires-2 c κs = search needs
+in-i32-requires-2 c κs = tt
 
 returns-4 : tie.Need-returns-4
 returns-4 c =

@@ -36,7 +36,7 @@ unfolding weeks
 returns c = rw (c .if1 .taken, toZ-ofZ (result-fits (c .before))) (wide-is (c .before))
 
 to-natural-requires : tie.Need-to-natural-requires
-to-natural-requires c κs = search needs
+to-natural-requires c κs = tt
 
 enum-known-count : tie.Need-enum-known-count
 enum-known-count c = search needs

@@ -18,7 +18,7 @@ added : (c : tie.After-checked-add-hours) → madeOf (c .checked-add-hours .resu
 added c = rw (toZ-ofZ (hours-fit (c .before .before))) at (c .checked-add-hours .ensures)
 
 checked-add-hours-requires : tie.Need-checked-add-hours-requires
-checked-add-hours-requires c κs = search needs
+checked-add-hours-requires c κs = tt
 
 enum-known-made : tie.Need-enum-known-made
 enum-known-made c = search needs
@@ -31,10 +31,10 @@ unfolding withZone
 returns c = made-kept _ _ _ (added (c .before .before)) _ (c .enum-told .given .1)
 
 total-seconds-requires : tie.Need-total-seconds-requires
-total-seconds-requires c κs = search needs
+total-seconds-requires c κs = tt
 
 with-offset-requires : tie.Need-with-offset-requires
-with-offset-requires c κs = search needs
+with-offset-requires c κs = tt
 
 returns-2 : tie.Need-returns-2
 unfolding withZone

@@ -10,7 +10,7 @@ found : (c : tie.After-is-leap-year) → let a = c .before .args in LineDate (c 
 found c = let a = c .before .args in line-date (c .is-leap-year .result) (a .year) (a .day) (c .is-leap-year .ensures) (c .before .pre)
 
 is-leap-year-requires : tie.Need-is-leap-year-requires
-is-leap-year-requires c κs = search needs
+is-leap-year-requires c κs = tt
 
 cast-leap : tie.Need-cast-leap
 cast-leap c = search needs

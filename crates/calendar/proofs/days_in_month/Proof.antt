@@ -41,7 +41,7 @@ array-read-result : tie.Need-array-read-result
 array-read-result c = search needs
 
 is-leap-year-requires : tie.Need-is-leap-year-requires
-is-leap-year-requires c κs = search needs
+is-leap-year-requires c κs = tt
 
 cast-result : tie.Need-cast-result
 cast-result c = search needs

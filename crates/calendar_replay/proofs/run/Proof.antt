@@ -12,13 +12,13 @@ abbrev μ-loop : tie.MeasureT-loop
 μ-loop chunk₀ arguments₀ at₀ turns₀ chunk arguments at turns = turns
 
 unnamed-requires : tie.Need-unnamed-requires Inv-loop μ-loop
-unnamed-requires c κs = search needs
+unnamed-requires c κs = tt
 
 loop-holds : tie.Need-loop-holds Inv-loop μ-loop
 loop-holds c = search needs
 
 read-full-requires : tie.Need-read-full-requires Inv-loop μ-loop
-read-full-requires c κs = search needs
+read-full-requires c κs = tt
 
 same-length : tie.Need-same-length Inv-loop μ-loop
 same-length c = search needs
@@ -36,7 +36,7 @@ part-take-bytes-end : tie.Need-part-take-bytes-end Inv-loop μ-loop
 part-take-bytes-end c = search needs
 
 take-bytes-requires : tie.Need-take-bytes-requires Inv-loop μ-loop
-take-bytes-requires c κs = search needs
+take-bytes-requires c κs = tt
 
 sub-turns : tie.Need-sub-turns Inv-loop μ-loop
 sub-turns c = search needs

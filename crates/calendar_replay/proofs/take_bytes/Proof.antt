@@ -18,7 +18,7 @@ shared-slice-read-take-byte : tie.Need-shared-slice-read-take-byte Inv-loop μ-l
 shared-slice-read-take-byte c = search needs
 
 take-byte-requires : tie.Need-take-byte-requires Inv-loop μ-loop
-take-byte-requires c κs = search needs
+take-byte-requires c κs = tt
 
 add-i : tie.Need-add-i Inv-loop μ-loop
 add-i c = search needs

@@ -6,7 +6,7 @@ use Rattle.date_forms.proofs.dotted.Statement.{statement}
 use Rattle.date_forms.proofs.dotted.Tie as tie
 
 spaced-u8-requires : tie.Need-spaced-u8-requires
-spaced-u8-requires c κs = search needs
+spaced-u8-requires c κs = tt
 
 enum-known-day : tie.Need-enum-known-day
 enum-known-day c = search needs
@@ -19,7 +19,7 @@ unfolding dotted
 returns c = search dates
 
 spaced-byte-requires : tie.Need-spaced-byte-requires
-spaced-byte-requires c κs = search needs
+spaced-byte-requires c κs = tt
 
 enum-known-at : tie.Need-enum-known-at
 enum-known-at c = search needs
@@ -32,7 +32,7 @@ unfolding dotted
 returns-2 c = search dates
 
 spaced-u8-requires-2 : tie.Need-spaced-u8-requires-2
-spaced-u8-requires-2 c κs = search needs
+spaced-u8-requires-2 c κs = tt
 
 enum-known-month : tie.Need-enum-known-month
 enum-known-month c = search needs
@@ -45,7 +45,7 @@ unfolding dotted
 returns-3 c = search dates
 
 spaced-byte-requires-2 : tie.Need-spaced-byte-requires-2
-spaced-byte-requires-2 c κs = search needs
+spaced-byte-requires-2 c κs = tt
 
 enum-known-at-2 : tie.Need-enum-known-at-2
 enum-known-at-2 c = search needs
@@ -58,7 +58,7 @@ unfolding dotted
 returns-4 c = search dates
 
 plain-dated-requires : tie.Need-plain-dated-requires
-plain-dated-requires c κs = search needs
+plain-dated-requires c κs = tt
 
 returns-5 : tie.Need-returns-5
 unfolding dotted

@@ -53,7 +53,7 @@ module _ (c : tie.Else1) where
   year-part = part-front (lowered (c .before .before .before .before .before .before .args .s .now)) (c .before .before .before .before .before .before .args .at) (c .before .before .end .given .0 .0) (ends (c .before) .1) 4 (omega (arith, ends (c .before)))
 
 dec-uint-str-requires : tie.Need-dec-uint-str-requires
-dec-uint-str-requires c κs = search needs
+dec-uint-str-requires c κs = tt
 
 enum-known-end : tie.Need-enum-known-end
 enum-known-end c = search needs
@@ -79,7 +79,7 @@ sub-u8-from-str-2 : tie.Need-sub-u8-from-str-2
 sub-u8-from-str-2 c = omega (arith, ends (c .before))
 
 u8-from-str-requires : tie.Need-u8-from-str-requires
-u8-from-str-requires c κs = search needs
+u8-from-str-requires c κs = tt
 
 enum-known-month : tie.Need-enum-known-month
 enum-known-month c = search needs
@@ -98,7 +98,7 @@ sub-u8-from-str-3 : tie.Need-sub-u8-from-str-3
 sub-u8-from-str-3 c = omega (arith, ends (c .before .before .before .before .before))
 
 u8-from-str-requires-2 : tie.Need-u8-from-str-requires-2
-u8-from-str-requires-2 c κs = search needs
+u8-from-str-requires-2 c κs = tt
 
 enum-known-day : tie.Need-enum-known-day
 enum-known-day c = search needs
@@ -118,7 +118,7 @@ sub-with-year : tie.Need-sub-with-year
 sub-with-year c = omega (arith, ends (c .before .before .before .before .before .before .before .before .before))
 
 with-year-requires : tie.Need-with-year-requires
-with-year-requires c κs = search needs
+with-year-requires c κs = tt
 
 returns-5 : tie.Need-returns-5
 unfolding iso2 five-digits

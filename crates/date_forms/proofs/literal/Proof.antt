@@ -6,7 +6,7 @@ use Rattle.date_forms.proofs.literal.Statement.{statement}
 use Rattle.date_forms.proofs.literal.Tie as tie
 
 literal1-requires : tie.Need-literal1-requires
-literal1-requires c κs = search needs
+literal1-requires c κs = tt
 
 enum-known-date : tie.Need-enum-known-date
 enum-known-date c = search needs
@@ -15,7 +15,7 @@ enum-told : tie.Need-enum-told
 enum-told c = search needs
 
 literal2-requires : tie.Need-literal2-requires
-literal2-requires c κs = search needs
+literal2-requires c κs = tt
 
 enum-known-date-2 : tie.Need-enum-known-date-2
 enum-known-date-2 c = search needs
@@ -24,7 +24,7 @@ enum-told-2 : tie.Need-enum-told-2
 enum-told-2 c = search needs
 
 literal3-requires : tie.Need-literal3-requires
-literal3-requires c κs = search needs
+literal3-requires c κs = tt
 
 returns : tie.Need-returns
 unfolding literal

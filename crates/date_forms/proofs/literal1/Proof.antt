@@ -6,7 +6,7 @@ use Rattle.date_forms.proofs.literal1.Statement.{statement}
 use Rattle.date_forms.proofs.literal1.Tie as tie
 
 spaced-u8-requires : tie.Need-spaced-u8-requires
-spaced-u8-requires c κs = search needs
+spaced-u8-requires c κs = tt
 
 enum-known-day : tie.Need-enum-known-day
 enum-known-day c = search needs
@@ -19,10 +19,10 @@ unfolding literal1
 returns c = search dates
 
 hyphen-requires : tie.Need-hyphen-requires
-hyphen-requires c κs = search needs
+hyphen-requires c κs = tt
 
 spaced-month-requires : tie.Need-spaced-month-requires
-spaced-month-requires c κs = search needs
+spaced-month-requires c κs = tt
 
 enum-known-month : tie.Need-enum-known-month
 enum-known-month c = search needs
@@ -35,7 +35,7 @@ unfolding literal1
 returns-2 c = search dates
 
 hyphen-dated-requires : tie.Need-hyphen-dated-requires
-hyphen-dated-requires c κs = search needs
+hyphen-dated-requires c κs = tt
 
 returns-3 : tie.Need-returns-3
 unfolding literal1

@@ -6,7 +6,7 @@ use Rattle.date_forms.proofs.literal2.Statement.{statement}
 use Rattle.date_forms.proofs.literal2.Tie as tie
 
 spaced-month-requires : tie.Need-spaced-month-requires
-spaced-month-requires c κs = search needs
+spaced-month-requires c κs = tt
 
 enum-known-month : tie.Need-enum-known-month
 enum-known-month c = search needs
@@ -19,7 +19,7 @@ unfolding literal2
 returns c = search dates
 
 spaced-u8-requires : tie.Need-spaced-u8-requires
-spaced-u8-requires c κs = search needs
+spaced-u8-requires c κs = tt
 
 enum-known-day : tie.Need-enum-known-day
 enum-known-day c = search needs
@@ -32,7 +32,7 @@ unfolding literal2
 returns-2 c = search dates
 
 comma-dated-requires : tie.Need-comma-dated-requires
-comma-dated-requires c κs = search needs
+comma-dated-requires c κs = tt
 
 returns-3 : tie.Need-returns-3
 unfolding literal2

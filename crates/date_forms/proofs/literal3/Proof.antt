@@ -6,7 +6,7 @@ use Rattle.date_forms.proofs.literal3.Statement.{statement}
 use Rattle.date_forms.proofs.literal3.Tie as tie
 
 spaced-month-requires : tie.Need-spaced-month-requires
-spaced-month-requires c κs = search needs
+spaced-month-requires c κs = tt
 
 enum-known-month : tie.Need-enum-known-month
 enum-known-month c = search needs
@@ -19,7 +19,7 @@ unfolding literal3
 returns c = search dates
 
 spaced-byte-requires : tie.Need-spaced-byte-requires
-spaced-byte-requires c κs = search needs
+spaced-byte-requires c κs = tt
 
 enum-known-at : tie.Need-enum-known-at
 enum-known-at c = search needs
@@ -32,7 +32,7 @@ unfolding literal3
 returns-2 c = search dates
 
 spaced-u8-requires : tie.Need-spaced-u8-requires
-spaced-u8-requires c κs = search needs
+spaced-u8-requires c κs = tt
 
 enum-known-day : tie.Need-enum-known-day
 enum-known-day c = search needs
@@ -45,7 +45,7 @@ unfolding literal3
 returns-3 c = search dates
 
 spaced-byte-requires-2 : tie.Need-spaced-byte-requires-2
-spaced-byte-requires-2 c κs = search needs
+spaced-byte-requires-2 c κs = tt
 
 enum-known-at-2 : tie.Need-enum-known-at-2
 enum-known-at-2 c = search needs
@@ -58,7 +58,7 @@ unfolding literal3
 returns-4 c = search dates
 
 year-str-requires : tie.Need-year-str-requires
-year-str-requires c κs = search needs
+year-str-requires c κs = tt
 
 enum-known-from : tie.Need-enum-known-from
 enum-known-from c = search needs
@@ -71,7 +71,7 @@ unfolding literal3
 returns-5 c = search dates
 
 with-year-requires : tie.Need-with-year-requires
-with-year-requires c κs = search needs
+with-year-requires c κs = tt
 
 returns-6 : tie.Need-returns-6
 unfolding literal3

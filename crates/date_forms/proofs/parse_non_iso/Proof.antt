@@ -6,7 +6,7 @@ use Rattle.date_forms.proofs.parse_non_iso.Statement.{statement}
 use Rattle.date_forms.proofs.parse_non_iso.Tie as tie
 
 dotted-requires : tie.Need-dotted-requires
-dotted-requires c κs = search needs
+dotted-requires c κs = tt
 
 enum-known-date : tie.Need-enum-known-date
 enum-known-date c = search needs
@@ -15,7 +15,7 @@ enum-told : tie.Need-enum-told
 enum-told c = search needs
 
 us-requires : tie.Need-us-requires
-us-requires c κs = search needs
+us-requires c κs = tt
 
 enum-known-date-2 : tie.Need-enum-known-date-2
 enum-known-date-2 c = search needs
@@ -24,7 +24,7 @@ enum-told-2 : tie.Need-enum-told-2
 enum-told-2 c = search needs
 
 literal-requires : tie.Need-literal-requires
-literal-requires c κs = search needs
+literal-requires c κs = tt
 
 returns : tie.Need-returns
 unfolding parse-non-iso

@@ -6,7 +6,7 @@ use Rattle.date_forms.proofs.slash_part.Statement.{statement}
 use Rattle.date_forms.proofs.slash_part.Tie as tie
 
 spaced-byte-requires : tie.Need-spaced-byte-requires
-spaced-byte-requires c κs = search needs
+spaced-byte-requires c κs = tt
 
 enum-known-start : tie.Need-enum-known-start
 enum-known-start c = search needs
@@ -19,7 +19,7 @@ unfolding slash-part
 returns c = search dates
 
 year-str-requires : tie.Need-year-str-requires
-year-str-requires c κs = search needs
+year-str-requires c κs = tt
 
 enum-known-from : tie.Need-enum-known-from
 enum-known-from c = search needs

@@ -17,7 +17,7 @@ found c =
     (sym (c .before .before .before .parse-uint .ensures) ∙ ap u64Answer (c .before .value .given .1))
 
 parse-uint-requires : tie.Need-parse-uint-requires
-parse-uint-requires c κs = search needs
+parse-uint-requires c κs = tt
 
 enum-known-value : tie.Need-enum-known-value
 enum-known-value c = search needs

@@ -6,7 +6,7 @@ use Rattle.date_forms.proofs.us.Statement.{statement}
 use Rattle.date_forms.proofs.us.Tie as tie
 
 year-str-requires : tie.Need-year-str-requires
-year-str-requires c κs = search needs
+year-str-requires c κs = tt
 
 enum-known-from : tie.Need-enum-known-from
 enum-known-from c = search needs
@@ -19,7 +19,7 @@ unfolding us
 returns c = search dates
 
 spaced-byte-requires : tie.Need-spaced-byte-requires
-spaced-byte-requires c κs = search needs
+spaced-byte-requires c κs = tt
 
 enum-known-at : tie.Need-enum-known-at
 enum-known-at c = search needs
@@ -32,7 +32,7 @@ unfolding us
 returns-2 c = search dates
 
 spaced-u8-requires : tie.Need-spaced-u8-requires
-spaced-u8-requires c κs = search needs
+spaced-u8-requires c κs = tt
 
 enum-known-number : tie.Need-enum-known-number
 enum-known-number c = search needs
@@ -45,7 +45,7 @@ unfolding us
 returns-3 c = search dates
 
 us-rest-requires : tie.Need-us-rest-requires
-us-rest-requires c κs = search needs
+us-rest-requires c κs = tt
 
 returns-4 : tie.Need-returns-4
 unfolding us

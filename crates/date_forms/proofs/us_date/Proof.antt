@@ -16,10 +16,10 @@ enum-known-last : tie.Need-enum-known-last
 enum-known-last c = search needs
 
 digit-count-requires : tie.Need-digit-count-requires
-digit-count-requires c κs = search needs
+digit-count-requires c κs = tt
 
 u8-from-str-requires : tie.Need-u8-from-str-requires
-u8-from-str-requires c κs = search needs
+u8-from-str-requires c κs = tt
 
 enum-known-day : tie.Need-enum-known-day
 enum-known-day c = search needs
@@ -35,7 +35,7 @@ returns c =
     simp (c .before .before .before .before .before .before .last .given .1, le-leb 4 (length w) (omega arith), d)
 
 with-year-requires : tie.Need-with-year-requires
-with-year-requires c κs = search needs
+with-year-requires c κs = tt
 
 returns-2 : tie.Need-returns-2
 unfolding usAt us-date
@@ -45,7 +45,7 @@ returns-2 c =
     simp (c .before .before .before .before .before .before .before .before .last .given .1, le-leb 4 (length w) (omega arith), d) (c .with-year .ensures)
 
 u8-from-str-requires-2 : tie.Need-u8-from-str-requires-2
-u8-from-str-requires-2 c κs = search needs
+u8-from-str-requires-2 c κs = tt
 
 enum-known-month : tie.Need-enum-known-month
 enum-known-month c = search needs
@@ -61,13 +61,13 @@ returns-3 c =
     simp (c .before .before .before .before .before .before .last .given .1, lt-leb 4 (length w) (omega arith), m)
 
 with-year-requires-2 : tie.Need-with-year-requires-2
-with-year-requires-2 c κs = search needs
+with-year-requires-2 c κs = tt
 
 enum-told-3 : tie.Need-enum-told-3
 enum-told-3 c = search needs
 
 u8-from-str-requires-3 : tie.Need-u8-from-str-requires-3
-u8-from-str-requires-3 c κs = search needs
+u8-from-str-requires-3 c κs = tt
 
 enum-known-month-2 : tie.Need-enum-known-month-2
 enum-known-month-2 c = search needs
@@ -82,7 +82,7 @@ returns-4 c =
     simp (c .before .before .before .enum-told3 .given .1, m)
 
 without-year-requires : tie.Need-without-year-requires
-without-year-requires c κs = search needs
+without-year-requires c κs = tt
 
 returns-5 : tie.Need-returns-5
 unfolding usAt us-date

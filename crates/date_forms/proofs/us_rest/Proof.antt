@@ -1,5 +1,4 @@
 -- `us_rest` is its definition's chain. Assumes nothing.
-use borrow.Author.Needs.{needs}
 use Rattle.dates.proofs.Chain.{year-us}
 use Rattle.dates.specs.Date.{us-rest}
 use Rattle.primitive.specs.Text.{lowered}
@@ -8,10 +7,10 @@ use Rattle.date_forms.proofs.us_rest.Statement.{statement}
 use Rattle.date_forms.proofs.us_rest.Tie as tie
 
 slash-part-requires : tie.Need-slash-part-requires
-slash-part-requires c κs = search needs
+slash-part-requires c κs = tt
 
 us-date-requires : tie.Need-us-date-requires
-us-date-requires c κs = search needs
+us-date-requires c κs = tt
 
 returns : tie.Need-returns
 unfolding us-rest

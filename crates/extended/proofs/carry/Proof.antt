@@ -25,14 +25,14 @@ made-two : (c : tie.After-from-unix-seconds2) → let s = c .before .before .bef
 made-two c = rw (toZ-ofZ (next-fits (c .before)), toZ-ofZ (c .before .before .before .before .before .before .fits .offset-seconds)) at (c .from-unix-seconds2 .ensures)
 
 from-unix-seconds-requires : tie.Need-from-unix-seconds-requires
-from-unix-seconds-requires c κs = search needs
+from-unix-seconds-requires c κs = tt
 
 returns : tie.Need-returns
 unfolding carried
 returns c = simp (lt-ltb _ _ (c .before .if1 .taken)) (made-one c)
 
 checked-add-requires : tie.Need-checked-add-requires
-checked-add-requires c κs = search needs
+checked-add-requires c κs = tt
 
 enum-known-next : tie.Need-enum-known-next
 enum-known-next c = search needs
@@ -45,7 +45,7 @@ unfolding carried
 returns-2 c = simp (le-ltb _ _ (c .before .before .before .if1 .left), sym (next-is (c .before .before)), c .enum-told .given .1)
 
 from-unix-seconds-requires-2 : tie.Need-from-unix-seconds-requires-2
-from-unix-seconds-requires-2 c κs = search needs
+from-unix-seconds-requires-2 c κs = tt
 
 returns-3 : tie.Need-returns-3
 unfolding carried

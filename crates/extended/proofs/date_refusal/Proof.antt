@@ -33,7 +33,7 @@ returns-5 c =
     search (needs, le-leb, lt-leb)
 
 days-in-month-requires : tie.Need-days-in-month-requires
-days-in-month-requires c κs = search needs
+days-in-month-requires c κs = tt
 
 returns-6 : tie.Need-returns-6
 unfolding testDate

@@ -23,7 +23,7 @@ cast-short : tie.Need-cast-short
 cast-short c = search needs
 
 is-leap-year-requires : tie.Need-is-leap-year-requires
-is-leap-year-requires c κs = search needs
+is-leap-year-requires c κs = tt
 
 cast-short-2 : tie.Need-cast-short-2
 cast-short-2 c = search needs

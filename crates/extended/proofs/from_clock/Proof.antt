@@ -19,10 +19,10 @@ year-small : (c : tie.Else1) → c .before .before .civil-from-days .result .yea
 year-small c = year-fact (c .before .before .civil-from-days .result .year) (year-passed c)
 
 civil-from-days-requires : tie.Need-civil-from-days-requires
-civil-from-days-requires c κs = search needs
+civil-from-days-requires c κs = tt
 
 year-refusal-requires : tie.Need-year-refusal-requires
-year-refusal-requires c κs = search needs
+year-refusal-requires c κs = tt
 
 returns : tie.Need-returns
 unfolding fromClock
@@ -42,7 +42,7 @@ cast-t17 : tie.Need-cast-t17
 cast-t17 c = search needs
 
 from-parts-requires : tie.Need-from-parts-requires
-from-parts-requires c κs = search needs
+from-parts-requires c κs = tt
 
 returns-2 : tie.Need-returns-2
 unfolding fromClock clockRecord

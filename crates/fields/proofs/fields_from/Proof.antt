@@ -5,25 +5,25 @@ use Rattle.fields.proofs.fields_from.Tie as tie
 use Rattle.fields.proofs.Cases.{fields-made}
 
 byte-at-requires : tie.Need-byte-at-requires
-byte-at-requires c κs = search needs
+byte-at-requires c κs = tt
 
 add-byte-at : tie.Need-add-byte-at
 add-byte-at c = search needs
 
 byte-at-requires-2 : tie.Need-byte-at-requires-2
-byte-at-requires-2 c κs = search needs
+byte-at-requires-2 c κs = tt
 
 add-byte-at-2 : tie.Need-add-byte-at-2
 add-byte-at-2 c = search needs
 
 byte-at-requires-3 : tie.Need-byte-at-requires-3
-byte-at-requires-3 c κs = search needs
+byte-at-requires-3 c κs = tt
 
 add-byte-at-3 : tie.Need-add-byte-at-3
 add-byte-at-3 c = search needs
 
 byte-at-requires-4 : tie.Need-byte-at-requires-4
-byte-at-requires-4 c κs = search needs
+byte-at-requires-4 c κs = tt
 
 add-u32-from : tie.Need-add-u32-from
 add-u32-from c = search needs
@@ -35,25 +35,25 @@ add-byte-at-4 : tie.Need-add-byte-at-4
 add-byte-at-4 c = search needs
 
 byte-at-requires-5 : tie.Need-byte-at-requires-5
-byte-at-requires-5 c κs = search needs
+byte-at-requires-5 c κs = tt
 
 add-byte-at-5 : tie.Need-add-byte-at-5
 add-byte-at-5 c = search needs
 
 byte-at-requires-6 : tie.Need-byte-at-requires-6
-byte-at-requires-6 c κs = search needs
+byte-at-requires-6 c κs = tt
 
 add-byte-at-6 : tie.Need-add-byte-at-6
 add-byte-at-6 c = search needs
 
 byte-at-requires-7 : tie.Need-byte-at-requires-7
-byte-at-requires-7 c κs = search needs
+byte-at-requires-7 c κs = tt
 
 add-byte-at-7 : tie.Need-add-byte-at-7
 add-byte-at-7 c = search needs
 
 byte-at-requires-8 : tie.Need-byte-at-requires-8
-byte-at-requires-8 c κs = search needs
+byte-at-requires-8 c κs = tt
 
 add-u32-from-2 : tie.Need-add-u32-from-2
 add-u32-from-2 c = search needs
@@ -65,13 +65,13 @@ add-byte-at-8 : tie.Need-add-byte-at-8
 add-byte-at-8 c = search needs
 
 byte-at-requires-9 : tie.Need-byte-at-requires-9
-byte-at-requires-9 c κs = search needs
+byte-at-requires-9 c κs = tt
 
 add-byte-at-9 : tie.Need-add-byte-at-9
 add-byte-at-9 c = search needs
 
 byte-at-requires-10 : tie.Need-byte-at-requires-10
-byte-at-requires-10 c κs = search needs
+byte-at-requires-10 c κs = tt
 
 add-u16-from : tie.Need-add-u16-from
 add-u16-from c = search needs

@@ -5,7 +5,7 @@ use Rattle.fields.proofs.u16_from.Tie as tie
 use Rattle.fields.proofs.Numbers.{two}
 
 byte-at-requires : tie.Need-byte-at-requires
-byte-at-requires c κs = search needs
+byte-at-requires c κs = tt
 
 cast-result : tie.Need-cast-result
 cast-result c = search needs
@@ -14,7 +14,7 @@ add-byte-at : tie.Need-add-byte-at
 add-byte-at c = search needs
 
 byte-at-requires-2 : tie.Need-byte-at-requires-2
-byte-at-requires-2 c κs = search needs
+byte-at-requires-2 c κs = tt
 
 cast-result-2 : tie.Need-cast-result-2
 cast-result-2 c = search needs

@@ -11,7 +11,7 @@ raised-is : (c : tie.After-bias) → c .bias .result ≡ raised (c .before .args
 raised-is c = rw (toZ-ofZ (c .before .fits .n)) at (c .bias .ensures)
 
 bias-requires : tie.Need-bias-requires
-bias-requires c κs = search needs
+bias-requires c κs = tt
 
 add-result : tie.Need-add-result
 add-result c = search needs

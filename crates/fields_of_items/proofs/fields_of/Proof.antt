@@ -8,13 +8,13 @@ enum-known-item : tie.Need-enum-known-item
 enum-known-item c = search needs
 
 with-date-requires : tie.Need-with-date-requires
-with-date-requires c κs = search needs
+with-date-requires c κs = tt
 
 enum-known-item-2 : tie.Need-enum-known-item-2
 enum-known-item-2 c = search needs
 
 counted-requires : tie.Need-counted-requires
-counted-requires c κs = search needs
+counted-requires c κs = tt
 
 with-time-requires : tie.Need-with-time-requires
 with-time-requires c κs = search needs
@@ -23,37 +23,37 @@ enum-known-item-3 : tie.Need-enum-known-item-3
 enum-known-item-3 c = search needs
 
 of-both-requires : tie.Need-of-both-requires
-of-both-requires c κs = search needs
+of-both-requires c κs = tt
 
 enum-known-item-4 : tie.Need-enum-known-item-4
 enum-known-item-4 c = search needs
 
 of-weekday-requires : tie.Need-of-weekday-requires
-of-weekday-requires c κs = search needs
+of-weekday-requires c κs = tt
 
 enum-known-item-5 : tie.Need-enum-known-item-5
 enum-known-item-5 c = search needs
 
 of-zone-requires : tie.Need-of-zone-requires
-of-zone-requires c κs = search needs
+of-zone-requires c κs = tt
 
 enum-told : tie.Need-enum-told
 enum-told c = search needs
 
 counted-requires-2 : tie.Need-counted-requires-2
-counted-requires-2 c κs = search needs
+counted-requires-2 c κs = tt
 
 enum-known-item-6 : tie.Need-enum-known-item-6
 enum-known-item-6 c = search needs
 
 of-relative-requires : tie.Need-of-relative-requires
-of-relative-requires c κs = search needs
+of-relative-requires c κs = tt
 
 enum-known-item-7 : tie.Need-enum-known-item-7
 enum-known-item-7 c = search needs
 
 of-pure-requires : tie.Need-of-pure-requires
-of-pure-requires c κs = search needs
+of-pure-requires c κs = tt
 
 returns : tie.Need-returns
 returns c = search cases

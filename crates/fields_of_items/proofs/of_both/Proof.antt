@@ -5,7 +5,7 @@ use Rattle.fields_of_items.proofs.of_both.Tie as tie
 use Rattle.fields.proofs.Cases.{cases}
 
 with-date-requires : tie.Need-with-date-requires
-with-date-requires c κs = search needs
+with-date-requires c κs = tt
 
 with-time-requires : tie.Need-with-time-requires
 with-time-requires c κs = search needs

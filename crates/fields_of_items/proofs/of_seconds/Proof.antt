@@ -1,5 +1,4 @@
 -- `of_seconds` is its definition. Assumes nothing.
-use borrow.Author.Needs.{needs}
 use Rattle.fields_of_items.proofs.of_seconds.Statement.{statement}
 use Rattle.fields_of_items.proofs.of_seconds.Tie as tie
 use Rattle.fields.proofs.Cases.{day-counted}
@@ -11,10 +10,10 @@ seconds-are : (c : tie.After-unsigned) → c .unsigned .result ≡ unsigned (c .
 seconds-are c = rw (toZ-ofZ (c .before .fits .n)) at (c .unsigned .ensures)
 
 unsigned-requires : tie.Need-unsigned-requires
-unsigned-requires c κs = search needs
+unsigned-requires c κs = tt
 
 counted-requires : tie.Need-counted-requires
-counted-requires c κs = search needs
+counted-requires c κs = tt
 
 returns : tie.Need-returns
 returns c = day-counted _ _ _ _ _ _ _ refl (seconds-are (c .before)) (c .counted .ensures .0)

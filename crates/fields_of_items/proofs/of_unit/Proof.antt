@@ -22,10 +22,10 @@ widen-requires : tie.Need-widen-requires
 widen-requires c κs = search needs
 
 unsigned-requires : tie.Need-unsigned-requires
-unsigned-requires c κs = search needs
+unsigned-requires c κs = tt
 
 counted-requires : tie.Need-counted-requires
-counted-requires c κs = search needs
+counted-requires c κs = tt
 
 returns : tie.Need-returns
 returns c = day-counted _ _ _ _ _ _ _ refl (amount-is (c .before)) (c .counted .ensures .0)

@@ -22,16 +22,16 @@ amount-is : (c : tie.After-unsigned) → c .unsigned .result ≡ unsigned (c .be
 amount-is c = rw (toZ-ofZ (wide-fits (c .before)), wide (c .before)) at (c .unsigned .ensures)
 
 day-field-requires : tie.Need-day-field-requires
-day-field-requires c κs = search needs
+day-field-requires c κs = tt
 
 widen-requires : tie.Need-widen-requires
 widen-requires c κs = search needs
 
 unsigned-requires : tie.Need-unsigned-requires
-unsigned-requires c κs = search needs
+unsigned-requires c κs = tt
 
 counted-requires : tie.Need-counted-requires
-counted-requires c κs = search needs
+counted-requires c κs = tt
 
 returns : tie.Need-returns
 returns c = day-counted _ _ _ _ _ _ _ (c .before .before .before .before .day-field .ensures) (amount-is (c .before)) (c .counted .ensures .0)

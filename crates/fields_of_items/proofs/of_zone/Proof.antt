@@ -1,12 +1,11 @@
 -- `of_zone` is its definition. Assumes nothing.
-use borrow.Author.Needs.{needs}
 use Rattle.fields_of_items.proofs.of_zone.Statement.{statement}
 use Rattle.fields_of_items.proofs.of_zone.Tie as tie
 use Rattle.fields.proofs.Cases.{cases}
 use Rattle.fields.specs.Fields.{ofZone}
 
 sign-flag-requires : tie.Need-sign-flag-requires
-sign-flag-requires c κs = search needs
+sign-flag-requires c κs = tt
 
 returns : tie.Need-returns
 unfolding ofZone

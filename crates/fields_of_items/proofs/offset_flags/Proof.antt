@@ -8,7 +8,7 @@ enum-known-offset : tie.Need-enum-known-offset
 enum-known-offset c = search needs
 
 sign-flag-requires : tie.Need-sign-flag-requires
-sign-flag-requires c κs = search needs
+sign-flag-requires c κs = tt
 
 add-result : tie.Need-add-result
 add-result c = search needs

@@ -1,15 +1,14 @@
 -- `same` is its definition. Assumes nothing.
-use borrow.Author.Needs.{needs}
 use Rattle.fields_of_items.proofs.same.Statement.{statement}
 use Rattle.fields_of_items.proofs.same.Tie as tie
 use Rattle.fields.proofs.Cases.{cases}
 use Rattle.fields.specs.Fields.{same}
 
 same-date-requires : tie.Need-same-date-requires
-same-date-requires c κs = search needs
+same-date-requires c κs = tt
 
 same-later-requires : tie.Need-same-later-requires
-same-later-requires c κs = search needs
+same-later-requires c κs = tt
 
 returns : tie.Need-returns
 unfolding same

@@ -1,15 +1,14 @@
 -- `same_later` is its definition. Assumes nothing.
-use borrow.Author.Needs.{needs}
 use Rattle.fields_of_items.proofs.same_later.Statement.{statement}
 use Rattle.fields_of_items.proofs.same_later.Tie as tie
 use Rattle.fields.proofs.Cases.{cases}
 use Rattle.fields.specs.Fields.{sameLater}
 
 same-time-requires : tie.Need-same-time-requires
-same-time-requires c κs = search needs
+same-time-requires c κs = tt
 
 same-rest-requires : tie.Need-same-rest-requires
-same-rest-requires c κs = search needs
+same-rest-requires c κs = tt
 
 returns : tie.Need-returns
 unfolding sameLater

@@ -6,16 +6,16 @@ use Rattle.fields.proofs.Cases.{cases}
 use Rattle.fields.specs.Fields.{withTime}
 
 offset-flags-requires : tie.Need-offset-flags-requires
-offset-flags-requires c κs = search needs
+offset-flags-requires c κs = tt
 
 add-t5 : tie.Need-add-t5
 add-t5 c = search needs
 
 hours-field-requires : tie.Need-hours-field-requires
-hours-field-requires c κs = search needs
+hours-field-requires c κs = tt
 
 minutes-field-requires : tie.Need-minutes-field-requires
-minutes-field-requires c κs = search needs
+minutes-field-requires c κs = tt
 
 returns : tie.Need-returns
 unfolding withTime

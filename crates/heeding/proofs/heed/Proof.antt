@@ -8,10 +8,10 @@ enum-known-standing : tie.Need-enum-known-standing
 enum-known-standing c = search needs
 
 set-item-requires : tie.Need-set-item-requires
-set-item-requires c κs = search needs
+set-item-requires c κs = tt
 
 ruled-requires : tie.Need-ruled-requires
-ruled-requires c κs = search needs
+ruled-requires c κs = tt
 
 enum-known-standing-2 : tie.Need-enum-known-standing-2
 enum-known-standing-2 c = search needs

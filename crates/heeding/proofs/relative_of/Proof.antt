@@ -8,49 +8,49 @@ enum-known-item : tie.Need-enum-known-item
 enum-known-item c = search needs
 
 place-for-requires : tie.Need-place-for-requires
-place-for-requires c κs = search needs
+place-for-requires c κs = tt
 
 enum-told : tie.Need-enum-told
 enum-told c = search needs
 
 place-for-requires-2 : tie.Need-place-for-requires-2
-place-for-requires-2 c κs = search needs
+place-for-requires-2 c κs = tt
 
 enum-told-2 : tie.Need-enum-told-2
 enum-told-2 c = search needs
 
 place-for-requires-3 : tie.Need-place-for-requires-3
-place-for-requires-3 c κs = search needs
+place-for-requires-3 c κs = tt
 
 enum-told-3 : tie.Need-enum-told-3
 enum-told-3 c = search needs
 
 place-for-requires-4 : tie.Need-place-for-requires-4
-place-for-requires-4 c κs = search needs
+place-for-requires-4 c κs = tt
 
 enum-told-4 : tie.Need-enum-told-4
 enum-told-4 c = search needs
 
 place-for-requires-5 : tie.Need-place-for-requires-5
-place-for-requires-5 c κs = search needs
+place-for-requires-5 c κs = tt
 
 enum-told-5 : tie.Need-enum-told-5
 enum-told-5 c = search needs
 
 place-for-requires-6 : tie.Need-place-for-requires-6
-place-for-requires-6 c κs = search needs
+place-for-requires-6 c κs = tt
 
 enum-told-6 : tie.Need-enum-told-6
 enum-told-6 c = search needs
 
 place-for-requires-7 : tie.Need-place-for-requires-7
-place-for-requires-7 c κs = search needs
+place-for-requires-7 c κs = tt
 
 enum-told-7 : tie.Need-enum-told-7
 enum-told-7 c = search needs
 
 place-for-requires-8 : tie.Need-place-for-requires-8
-place-for-requires-8 c κs = search needs
+place-for-requires-8 c κs = tt
 
 returns : tie.Need-returns
 returns c = search cases

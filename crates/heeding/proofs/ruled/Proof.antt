@@ -11,7 +11,7 @@ enum-known-set-2 : tie.Need-enum-known-set-2
 enum-known-set-2 c = search needs
 
 rule-place-requires : tie.Need-rule-place-requires
-rule-place-requires c κs = search needs
+rule-place-requires c κs = tt
 
 returns : tie.Need-returns
 returns c = search cases

@@ -19,7 +19,7 @@ hour-found c =
     (sym (c .before .before .before .parse-uint .ensures) ∙ ap u64Answer (c .before .hour .given .1))
 
 parse-uint-requires : tie.Need-parse-uint-requires
-parse-uint-requires c κs = search needs
+parse-uint-requires c κs = tt
 
 enum-known-hour : tie.Need-enum-known-hour
 enum-known-hour c = search needs
@@ -35,7 +35,7 @@ cast-set-clock : tie.Need-cast-set-clock
 cast-set-clock c = record { fits = omega (arith, hour-found c) }
 
 set-clock-requires : tie.Need-set-clock-requires
-set-clock-requires c κs = search needs
+set-clock-requires c κs = tt
 
 returns-2 : tie.Need-returns-2
 unfolding setHour

@@ -25,7 +25,7 @@ minute-found c =
     (sym (c .before .before .before .parse-uint2 .ensures) ∙ ap u64Answer (c .before .minute .given .1))
 
 parse-uint-requires : tie.Need-parse-uint-requires
-parse-uint-requires c κs = search needs
+parse-uint-requires c κs = tt
 
 enum-known-hour : tie.Need-enum-known-hour
 enum-known-hour c = search needs
@@ -38,7 +38,7 @@ unfolding setHourAndMinute
 returns c = search cases
 
 parse-uint-requires-2 : tie.Need-parse-uint-requires-2
-parse-uint-requires-2 c κs = search needs
+parse-uint-requires-2 c κs = tt
 
 enum-known-minute : tie.Need-enum-known-minute
 enum-known-minute c = search needs
@@ -57,7 +57,7 @@ cast-set-clock-2 : tie.Need-cast-set-clock-2
 cast-set-clock-2 c = record { fits = omega (arith, minute-found c) }
 
 set-clock-requires : tie.Need-set-clock-requires
-set-clock-requires c κs = search needs
+set-clock-requires c κs = tt
 
 returns-3 : tie.Need-returns-3
 unfolding setHourAndMinute

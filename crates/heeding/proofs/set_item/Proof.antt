@@ -9,25 +9,25 @@ enum-known-item : tie.Need-enum-known-item
 enum-known-item c = search needs
 
 set-date-time-requires : tie.Need-set-date-time-requires
-set-date-time-requires c κs = search needs
+set-date-time-requires c κs = tt
 
 enum-known-item-2 : tie.Need-enum-known-item-2
 enum-known-item-2 c = search needs
 
 set-date-requires : tie.Need-set-date-requires
-set-date-requires c κs = search needs
+set-date-requires c κs = tt
 
 enum-known-item-3 : tie.Need-enum-known-item-3
 enum-known-item-3 c = search needs
 
 set-time-requires : tie.Need-set-time-requires
-set-time-requires c κs = search needs
+set-time-requires c κs = tt
 
 enum-known-item-4 : tie.Need-enum-known-item-4
 enum-known-item-4 c = search needs
 
 set-weekday-requires : tie.Need-set-weekday-requires
-set-weekday-requires c κs = search needs
+set-weekday-requires c κs = tt
 
 enum-told : tie.Need-enum-told
 enum-told c = search needs
@@ -36,19 +36,19 @@ enum-known-item-5 : tie.Need-enum-known-item-5
 enum-known-item-5 c = search needs
 
 set-zone-requires : tie.Need-set-zone-requires
-set-zone-requires c κs = search needs
+set-zone-requires c κs = tt
 
 enum-told-2 : tie.Need-enum-told-2
 enum-told-2 c = search needs
 
 set-zone-requires-2 : tie.Need-set-zone-requires-2
-set-zone-requires-2 c κs = search needs
+set-zone-requires-2 c κs = tt
 
 enum-known-item-6 : tie.Need-enum-known-item-6
 enum-known-item-6 c = search needs
 
 set-pure-requires : tie.Need-set-pure-requires
-set-pure-requires c κs = search needs
+set-pure-requires c κs = tt
 
 returns : tie.Need-returns
 returns c = search cases

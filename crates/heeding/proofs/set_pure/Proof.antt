@@ -9,13 +9,13 @@ enum-known-given : tie.Need-enum-known-given
 enum-known-given c = search needs
 
 set-pure-behind-requires : tie.Need-set-pure-behind-requires
-set-pure-behind-requires c κs = search needs
+set-pure-behind-requires c κs = tt
 
 enum-told : tie.Need-enum-told
 enum-told c = search needs
 
 set-pure-time-requires : tie.Need-set-pure-time-requires
-set-pure-time-requires c κs = search needs
+set-pure-time-requires c κs = tt
 
 returns : tie.Need-returns
 unfolding setPure

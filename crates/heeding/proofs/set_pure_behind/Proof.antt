@@ -8,7 +8,7 @@ enum-told : tie.Need-enum-told
 enum-told c = search needs
 
 set-pure-time-requires : tie.Need-set-pure-time-requires
-set-pure-time-requires c κs = search needs
+set-pure-time-requires c κs = tt
 
 enum-told-2 : tie.Need-enum-told-2
 enum-told-2 c = search needs
@@ -23,7 +23,7 @@ add-set-pure-year : tie.Need-add-set-pure-year
 add-set-pure-year c = search needs
 
 set-pure-year-requires : tie.Need-set-pure-year-requires
-set-pure-year-requires c κs = search needs
+set-pure-year-requires c κs = tt
 
 returns : tie.Need-returns
 returns c = search cases

@@ -23,7 +23,7 @@ add-to : tie.Need-add-to
 add-to c = search needs
 
 set-hour-requires : tie.Need-set-hour-requires
-set-hour-requires c κs = search needs
+set-hour-requires c κs = tt
 
 returns-3 : tie.Need-returns-3
 unfolding setPureTime
@@ -33,7 +33,7 @@ sub-set-hour-and-minute : tie.Need-sub-set-hour-and-minute
 sub-set-hour-and-minute c = search needs
 
 set-hour-and-minute-requires : tie.Need-set-hour-and-minute-requires
-set-hour-and-minute-requires c κs = search needs
+set-hour-and-minute-requires c κs = tt
 
 returns-4 : tie.Need-returns-4
 unfolding setPureTime

@@ -6,7 +6,7 @@ use Rattle.rules.proofs.Cases.{cases}
 use Rattle.rules.specs.Rules.{setPureYear}
 
 year-from-str-requires : tie.Need-year-from-str-requires
-year-from-str-requires c κs = search needs
+year-from-str-requires c κs = tt
 
 enum-known-year : tie.Need-enum-known-year
 enum-known-year c = search needs

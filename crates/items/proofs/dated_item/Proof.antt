@@ -6,7 +6,7 @@ use Rattle.items.proofs.dated_item.Statement.{statement}
 use Rattle.items.proofs.dated_item.Tie as tie
 
 parse-time-after-date-requires : tie.Need-parse-time-after-date-requires
-parse-time-after-date-requires c κs = search needs
+parse-time-after-date-requires c κs = tt
 
 enum-known-v : tie.Need-enum-known-v
 enum-known-v c = search needs

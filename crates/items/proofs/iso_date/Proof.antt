@@ -6,7 +6,7 @@ use Rattle.items.proofs.iso_date.Statement.{statement}
 use Rattle.items.proofs.iso_date.Tie as tie
 
 iso1-requires : tie.Need-iso1-requires
-iso1-requires c κs = search needs
+iso1-requires c κs = tt
 
 enum-known-date : tie.Need-enum-known-date
 enum-known-date c = search needs
@@ -19,7 +19,7 @@ enum-told : tie.Need-enum-told
 enum-told c = search needs
 
 iso2-requires : tie.Need-iso2-requires
-iso2-requires c κs = search needs
+iso2-requires c κs = tt
 
 returns-2 : tie.Need-returns-2
 unfolding iso-date

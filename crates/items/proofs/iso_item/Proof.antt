@@ -6,7 +6,7 @@ use Rattle.items.proofs.iso_item.Statement.{statement}
 use Rattle.items.proofs.iso_item.Tie as tie
 
 iso-date-requires : tie.Need-iso-date-requires
-iso-date-requires c κs = search needs
+iso-date-requires c κs = tt
 
 enum-known-date : tie.Need-enum-known-date
 enum-known-date c = search needs
@@ -19,7 +19,7 @@ unfolding iso-item
 returns c = search items
 
 dated-item-requires : tie.Need-dated-item-requires
-dated-item-requires c κs = search needs
+dated-item-requires c κs = tt
 
 returns-2 : tie.Need-returns-2
 unfolding iso-item

@@ -6,7 +6,7 @@ use Rattle.items.proofs.number_item.Statement.{statement}
 use Rattle.items.proofs.number_item.Tie as tie
 
 iso-item-requires : tie.Need-iso-item-requires
-iso-item-requires c κs = search needs
+iso-item-requires c κs = tt
 
 enum-known-v : tie.Need-enum-known-v
 enum-known-v c = search needs
@@ -15,7 +15,7 @@ enum-told : tie.Need-enum-told
 enum-told c = search needs
 
 other-item-requires : tie.Need-other-item-requires
-other-item-requires c κs = search needs
+other-item-requires c κs = tt
 
 enum-told-2 : tie.Need-enum-told-2
 enum-told-2 c = search needs

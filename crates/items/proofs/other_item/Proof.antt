@@ -6,7 +6,7 @@ use Rattle.items.proofs.other_item.Statement.{statement}
 use Rattle.items.proofs.other_item.Tie as tie
 
 parse-non-iso-requires : tie.Need-parse-non-iso-requires
-parse-non-iso-requires c κs = search needs
+parse-non-iso-requires c κs = tt
 
 enum-known-date : tie.Need-enum-known-date
 enum-known-date c = search needs
@@ -15,7 +15,7 @@ enum-told : tie.Need-enum-told
 enum-told c = search needs
 
 time-or-relative-requires : tie.Need-time-or-relative-requires
-time-or-relative-requires c κs = search needs
+time-or-relative-requires c κs = tt
 
 returns : tie.Need-returns
 unfolding other-item date-item

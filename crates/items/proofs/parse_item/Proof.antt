@@ -5,10 +5,10 @@ use Rattle.items.proofs.parse_item.Statement.{statement}
 use Rattle.items.proofs.parse_item.Tie as tie
 
 space-requires : tie.Need-space-requires
-space-requires c κs = search needs
+space-requires c κs = tt
 
 relative-item-requires : tie.Need-relative-item-requires
-relative-item-requires c κs = search needs
+relative-item-requires c κs = tt
 
 returns : tie.Need-returns
 returns c = search fronts
@@ -17,7 +17,7 @@ shared-slice-read-if2 : tie.Need-shared-slice-read-if2
 shared-slice-read-if2 c = search needs
 
 relative-item-requires-2 : tie.Need-relative-item-requires-2
-relative-item-requires-2 c κs = search needs
+relative-item-requires-2 c κs = tt
 
 returns-2 : tie.Need-returns-2
 returns-2 c = search fronts
@@ -26,13 +26,13 @@ shared-slice-read-if3 : tie.Need-shared-slice-read-if3
 shared-slice-read-if3 c = search needs
 
 other-item-requires : tie.Need-other-item-requires
-other-item-requires c κs = search needs
+other-item-requires c κs = tt
 
 returns-3 : tie.Need-returns-3
 returns-3 c = search fronts
 
 number-item-requires : tie.Need-number-item-requires
-number-item-requires c κs = search needs
+number-item-requires c κs = tt
 
 returns-4 : tie.Need-returns-4
 returns-4 c = search fronts

@@ -6,7 +6,7 @@ use Rattle.items.proofs.relative_item.Statement.{statement}
 use Rattle.items.proofs.relative_item.Tie as tie
 
 parse-requires : tie.Need-parse-requires
-parse-requires c κs = search needs
+parse-requires c κs = tt
 
 enum-known-v : tie.Need-enum-known-v
 enum-known-v c = search needs

@@ -6,7 +6,7 @@ use Rattle.items.proofs.time_or_relative.Statement.{statement}
 use Rattle.items.proofs.time_or_relative.Tie as tie
 
 parse-requires : tie.Need-parse-requires
-parse-requires c κs = search needs
+parse-requires c κs = tt
 
 enum-known-t : tie.Need-enum-known-t
 enum-known-t c = search needs
@@ -15,7 +15,7 @@ enum-told : tie.Need-enum-told
 enum-told c = search needs
 
 relative-item-requires : tie.Need-relative-item-requires
-relative-item-requires c κs = search needs
+relative-item-requires c κs = tt
 
 enum-told-2 : tie.Need-enum-told-2
 enum-told-2 c = search needs

@@ -1,14 +1,13 @@
 -- `both_in_range` is its definition. Assumes nothing.
-use borrow.Author.Needs.{needs}
 use Rattle.items_of_fields.proofs.both_in_range.Statement.{statement}
 use Rattle.items_of_fields.proofs.both_in_range.Tie as tie
 use Rattle.fields.proofs.Cases.{cases}
 
 date-in-range-requires : tie.Need-date-in-range-requires
-date-in-range-requires c κs = search needs
+date-in-range-requires c κs = tt
 
 time-in-range-requires : tie.Need-time-in-range-requires
-time-in-range-requires c κs = search needs
+time-in-range-requires c κs = tt
 
 returns : tie.Need-returns
 returns c = search cases

@@ -11,13 +11,13 @@ returns : tie.Need-returns
 returns c = search cases
 
 exists-requires : tie.Need-exists-requires
-exists-requires c κs = search needs
+exists-requires c κs = tt
 
 enum-told : tie.Need-enum-told
 enum-told c = search needs
 
 exists-requires-2 : tie.Need-exists-requires-2
-exists-requires-2 c κs = search needs
+exists-requires-2 c κs = tt
 
 returns-2 : tie.Need-returns-2
 returns-2 c = search cases

@@ -1,5 +1,4 @@
 -- `day_of` is its definition. Assumes nothing.
-use borrow.Author.Needs.{needs}
 use Rattle.items_of_fields.proofs.day_of.Statement.{statement}
 use Rattle.items_of_fields.proofs.day_of.Tie as tie
 use Rattle.fields.proofs.Cases.{cases}
@@ -22,7 +21,7 @@ unfolding dayOf
 returns-4 c = search cases
 
 later-day-requires : tie.Need-later-day-requires
-later-day-requires c κs = search needs
+later-day-requires c κs = tt
 
 returns-5 : tie.Need-returns-5
 unfolding dayOf

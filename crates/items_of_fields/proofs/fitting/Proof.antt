@@ -1,18 +1,17 @@
 -- `fitting` is its definition. Assumes nothing.
-use borrow.Author.Needs.{needs}
 use Rattle.items_of_fields.proofs.fitting.Statement.{statement}
 use Rattle.items_of_fields.proofs.fitting.Tie as tie
 use Rattle.fields.proofs.Cases.{cases}
 use Rattle.fields.specs.Fields.{fitting}
 
 in-range-requires : tie.Need-in-range-requires
-in-range-requires c κs = search needs
+in-range-requires c κs = tt
 
 fields-of-requires : tie.Need-fields-of-requires
-fields-of-requires c κs = search needs
+fields-of-requires c κs = tt
 
 same-requires : tie.Need-same-requires
-same-requires c κs = search needs
+same-requires c κs = tt
 
 returns : tie.Need-returns
 unfolding fitting

@@ -8,19 +8,19 @@ enum-known-item : tie.Need-enum-known-item
 enum-known-item c = search needs
 
 date-in-range-requires : tie.Need-date-in-range-requires
-date-in-range-requires c κs = search needs
+date-in-range-requires c κs = tt
 
 enum-known-item-2 : tie.Need-enum-known-item-2
 enum-known-item-2 c = search needs
 
 time-in-range-requires : tie.Need-time-in-range-requires
-time-in-range-requires c κs = search needs
+time-in-range-requires c κs = tt
 
 enum-known-item-3 : tie.Need-enum-known-item-3
 enum-known-item-3 c = search needs
 
 both-in-range-requires : tie.Need-both-in-range-requires
-both-in-range-requires c κs = search needs
+both-in-range-requires c κs = tt
 
 enum-told : tie.Need-enum-told
 enum-told c = search needs
@@ -29,7 +29,7 @@ enum-known-item-4 : tie.Need-enum-known-item-4
 enum-known-item-4 c = search needs
 
 zone-in-range-requires : tie.Need-zone-in-range-requires
-zone-in-range-requires c κs = search needs
+zone-in-range-requires c κs = tt
 
 enum-told-2 : tie.Need-enum-told-2
 enum-told-2 c = search needs
@@ -41,7 +41,7 @@ enum-known-item-5 : tie.Need-enum-known-item-5
 enum-known-item-5 c = search needs
 
 pure-in-range-requires : tie.Need-pure-in-range-requires
-pure-in-range-requires c κs = search needs
+pure-in-range-requires c κs = tt
 
 returns : tie.Need-returns
 returns c = search cases

@@ -1,12 +1,11 @@
 -- `later_kind` is its definition. Assumes nothing.
-use borrow.Author.Needs.{needs}
 use Rattle.items_of_fields.proofs.later_kind.Statement.{statement}
 use Rattle.items_of_fields.proofs.later_kind.Tie as tie
 use Rattle.fields.proofs.Cases.{cases}
 use Rattle.fields.specs.Fields.{laterKind}
 
 offset-of-requires : tie.Need-offset-of-requires
-offset-of-requires c κs = search needs
+offset-of-requires c κs = tt
 
 returns : tie.Need-returns
 unfolding laterKind
@@ -17,7 +16,7 @@ unfolding laterKind
 returns-2 c = search cases
 
 relative-of-requires : tie.Need-relative-of-requires
-relative-of-requires c κs = search needs
+relative-of-requires c κs = tt
 
 returns-3 : tie.Need-returns-3
 unfolding laterKind

@@ -14,7 +14,7 @@ cast-in-range-2 : tie.Need-cast-in-range-2
 cast-in-range-2 c = search needs
 
 in-range-requires : tie.Need-in-range-requires
-in-range-requires c κs = search needs
+in-range-requires c κs = tt
 
 enum-told : tie.Need-enum-told
 enum-told c = search needs

@@ -6,14 +6,14 @@ use Rattle.fields.proofs.Cases.{cases}
 use Rattle.fields.specs.Fields.{relativeOf}
 
 signed-requires : tie.Need-signed-requires
-signed-requires c κs = search needs
+signed-requires c κs = tt
 
 returns : tie.Need-returns
 unfolding relativeOf
 returns c = search cases
 
 as-small-requires : tie.Need-as-small-requires
-as-small-requires c κs = search needs
+as-small-requires c κs = tt
 
 enum-known-n : tie.Need-enum-known-n
 enum-known-n c = search needs
@@ -26,7 +26,7 @@ unfolding relativeOf
 returns-2 c = search cases
 
 unit-of-requires : tie.Need-unit-of-requires
-unit-of-requires c κs = search needs
+unit-of-requires c κs = tt
 
 returns-3 : tie.Need-returns-3
 unfolding relativeOf

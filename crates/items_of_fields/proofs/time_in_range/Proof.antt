@@ -1,5 +1,4 @@
 -- `time_in_range` is its definition. Assumes nothing.
-use borrow.Author.Needs.{needs}
 use Rattle.items_of_fields.proofs.time_in_range.Statement.{statement}
 use Rattle.items_of_fields.proofs.time_in_range.Tie as tie
 use Rattle.fields.proofs.Cases.{cases}
@@ -22,7 +21,7 @@ unfolding timeInRange
 returns-4 c = search cases
 
 offset-in-range-requires : tie.Need-offset-in-range-requires
-offset-in-range-requires c κs = search needs
+offset-in-range-requires c κs = tt
 
 returns-5 : tie.Need-returns-5
 unfolding timeInRange

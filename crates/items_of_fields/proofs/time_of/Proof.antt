@@ -1,11 +1,10 @@
 -- `time_of` is its definition. Assumes nothing.
-use borrow.Author.Needs.{needs}
 use Rattle.items_of_fields.proofs.time_of.Statement.{statement}
 use Rattle.items_of_fields.proofs.time_of.Tie as tie
 use Rattle.fields.proofs.Cases.{cases}
 
 time-offset-of-requires : tie.Need-time-offset-of-requires
-time-offset-of-requires c κs = search needs
+time-offset-of-requires c κs = tt
 
 returns : tie.Need-returns
 returns c = search cases

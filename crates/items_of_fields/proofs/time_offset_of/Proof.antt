@@ -1,12 +1,11 @@
 -- `time_offset_of` is its definition. Assumes nothing.
-use borrow.Author.Needs.{needs}
 use Rattle.items_of_fields.proofs.time_offset_of.Statement.{statement}
 use Rattle.items_of_fields.proofs.time_offset_of.Tie as tie
 use Rattle.fields.proofs.Cases.{cases}
 use Rattle.fields.specs.Fields.{timeOffsetOf}
 
 offset-of-requires : tie.Need-offset-of-requires
-offset-of-requires c κs = search needs
+offset-of-requires c κs = tt
 
 returns : tie.Need-returns
 unfolding timeOffsetOf

@@ -1,5 +1,4 @@
 -- `unit_of` is its definition. Assumes nothing.
-use borrow.Author.Needs.{needs}
 use Rattle.items_of_fields.proofs.unit_of.Statement.{statement}
 use Rattle.items_of_fields.proofs.unit_of.Tie as tie
 use Rattle.fields.proofs.Cases.{cases, is-not}
@@ -19,7 +18,7 @@ unfolding unitOf
 returns-3 c = search cases
 
 later-unit-requires : tie.Need-later-unit-requires
-later-unit-requires c κs = search needs
+later-unit-requires c κs = tt
 
 returns-4 : tie.Need-returns-4
 unfolding unitOf

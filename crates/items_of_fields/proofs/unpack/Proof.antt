@@ -6,7 +6,7 @@ use Rattle.fields.proofs.Cases.{cases}
 use Rattle.fields.specs.Fields.{unpacked}
 
 item-of-requires : tie.Need-item-of-requires
-item-of-requires c κs = search needs
+item-of-requires c κs = tt
 
 enum-known-item : tie.Need-enum-known-item
 enum-known-item c = search needs
@@ -19,7 +19,7 @@ unfolding unpacked
 returns c = search cases
 
 fitting-requires : tie.Need-fitting-requires
-fitting-requires c κs = search needs
+fitting-requires c κs = tt
 
 returns-2 : tie.Need-returns-2
 unfolding unpacked

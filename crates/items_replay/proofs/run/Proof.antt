@@ -13,10 +13,10 @@ abbrev μ-loop : tie.MeasureT-loop
 μ-loop list text₀ n at₀ i₀ text at i = n - i
 
 read-full-requires : tie.Need-read-full-requires Inv-loop μ-loop
-read-full-requires c κs = search needs
+read-full-requires c κs = tt
 
 behind-requires : tie.Need-behind-requires Inv-loop μ-loop
-behind-requires c κs = search needs
+behind-requires c κs = tt
 
 loop-holds : tie.Need-loop-holds Inv-loop μ-loop
 loop-holds c = search needs
@@ -25,7 +25,7 @@ slice-read-take-byte : tie.Need-slice-read-take-byte Inv-loop μ-loop
 slice-read-take-byte c = search needs
 
 take-byte-requires : tie.Need-take-byte-requires Inv-loop μ-loop
-take-byte-requires c κs = search needs
+take-byte-requires c κs = tt
 
 add-i : tie.Need-add-i Inv-loop μ-loop
 add-i c = search needs

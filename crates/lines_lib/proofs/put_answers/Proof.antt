@@ -25,7 +25,7 @@ returns : tie.Need-returns Inv-loop μ-loop
 returns c = stopped-full (c .before .before .loop .inv) (c .before .loop-test .taken) (c .if1 .taken)
 
 line-end-requires : tie.Need-line-end-requires Inv-loop μ-loop
-line-end-requires c κs = search needs
+line-end-requires c κs = tt
 
 same-length-2 : tie.Need-same-length-2 Inv-loop μ-loop
 same-length-2 c = search needs

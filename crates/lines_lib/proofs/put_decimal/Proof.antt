@@ -20,7 +20,7 @@ abbrev μ-loop : tie.MeasureT-loop
 μ-loop number out₀ at count i₀ left₀ out i left = i
 
 decimal-width-requires : tie.Need-decimal-width-requires Inv-loop μ-loop
-decimal-width-requires c κs = search needs
+decimal-width-requires c κs = tt
 
 loop-holds : tie.Need-loop-holds Inv-loop μ-loop
 loop-holds c = search filling

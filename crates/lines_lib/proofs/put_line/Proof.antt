@@ -5,7 +5,7 @@ use Rattle.lines_lib.proofs.put_line.Statement.{statement}
 use Rattle.lines_lib.proofs.put_line.Tie as tie
 
 read-text-requires : tie.Need-read-text-requires
-read-text-requires c κs = search needs
+read-text-requires c κs = tt
 
 put-answer-requires : tie.Need-put-answer-requires
 put-answer-requires c κs = search needs

@@ -16,7 +16,7 @@ part-write-end : tie.Need-part-write-end
 part-write-end c = search needs
 
 write-requires : tie.Need-write-requires
-write-requires c κs = search needs
+write-requires c κs = tt
 
 same-length : tie.Need-same-length
 same-length c = search needs

@@ -5,7 +5,7 @@ use Rattle.months.proofs.month_in.Statement.{statement}
 use Rattle.months.proofs.month_in.Tie as tie
 
 find-word-requires : tie.Need-find-word-requires
-find-word-requires c κs = search needs
+find-word-requires c κs = tt
 
 shared-slice-read-t11 : tie.Need-shared-slice-read-t11
 shared-slice-read-t11 c = search needs

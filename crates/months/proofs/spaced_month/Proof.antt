@@ -1,13 +1,12 @@
 -- `spaced_month` is `literal_month` behind space. Assumes nothing.
-use borrow.Author.Needs.{needs}
 use Rattle.months.proofs.spaced_month.Statement.{statement}
 use Rattle.months.proofs.spaced_month.Tie as tie
 
 space-requires : tie.Need-space-requires
-space-requires c κs = search needs
+space-requires c κs = tt
 
 literal-month-requires : tie.Need-literal-month-requires
-literal-month-requires c κs = search needs
+literal-month-requires c κs = tt
 
 returns : tie.Need-returns
 returns c = rw (← c .before .space .ensures) (c .literal-month .ensures)

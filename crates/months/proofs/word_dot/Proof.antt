@@ -15,7 +15,7 @@ use Rattle.months.proofs.word_dot.Statement.{statement}
 use Rattle.months.proofs.word_dot.Tie as tie
 
 alpha1-requires : tie.Need-alpha1-requires
-alpha1-requires c κs = search needs
+alpha1-requires c κs = tt
 
 enum-known-end : tie.Need-enum-known-end
 enum-known-end c = search needs
@@ -28,7 +28,7 @@ unfolding word-dot
 returns c = search dates
 
 byte-requires : tie.Need-byte-requires
-byte-requires c κs = search needs
+byte-requires c κs = tt
 
 enum-known-dot : tie.Need-enum-known-dot
 enum-known-dot c = search needs

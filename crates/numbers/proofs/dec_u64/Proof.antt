@@ -14,7 +14,7 @@ enum-told : tie.Need-enum-told
 enum-told c = search needs
 
 long-uint-requires : tie.Need-long-uint-requires
-long-uint-requires c κs = search needs
+long-uint-requires c κs = tt
 
 returns : tie.Need-returns
 returns c = search scans

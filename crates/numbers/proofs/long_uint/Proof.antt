@@ -6,7 +6,7 @@ use Rattle.numbers.proofs.long_uint.Statement.{statement}
 use Rattle.numbers.proofs.long_uint.Tie as tie
 
 dec-uint-str-requires : tie.Need-dec-uint-str-requires
-dec-uint-str-requires c κs = search needs
+dec-uint-str-requires c κs = tt
 
 enum-known-end : tie.Need-enum-known-end
 enum-known-end c = search needs
@@ -19,7 +19,7 @@ unfolding dec-uint
 returns c = search chain
 
 parse-uint-requires : tie.Need-parse-uint-requires
-parse-uint-requires c κs = search needs
+parse-uint-requires c κs = tt
 
 returns-2 : tie.Need-returns-2
 unfolding dec-uint

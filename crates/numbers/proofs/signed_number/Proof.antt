@@ -6,7 +6,7 @@ use Rattle.numbers.proofs.signed_number.Statement.{statement}
 use Rattle.numbers.proofs.signed_number.Tie as tie
 
 space-requires : tie.Need-space-requires
-space-requires c κs = search needs
+space-requires c κs = tt
 
 dec-uint-requires : tie.Need-dec-uint-requires
 dec-uint-requires c κs = search needs

@@ -1,13 +1,12 @@
 -- `spaced_u8` reads at the place that `space` answers. Assumes nothing.
-use borrow.Author.Needs.{needs}
 use Rattle.numbers.proofs.spaced_u8.Statement.{statement}
 use Rattle.numbers.proofs.spaced_u8.Tie as tie
 
 space-requires : tie.Need-space-requires
-space-requires c κs = search needs
+space-requires c κs = tt
 
 dec-u8-requires : tie.Need-dec-u8-requires
-dec-u8-requires c κs = search needs
+dec-u8-requires c κs = tt
 
 returns : tie.Need-returns
 returns c = rw (← c .before .space .ensures) (c .dec-u8 .ensures)

@@ -20,7 +20,7 @@ abbrev μ-loop : tie.MeasureT-loop
 μ-loop packet count digits base standing₀ relatives₀ found₀ used₀ i₀ standing relatives found used i = count - i
 
 start-requires : tie.Need-start-requires Inv-loop μ-loop
-start-requires c κs = search needs
+start-requires c κs = tt
 
 loop-holds : tie.Need-loop-holds Inv-loop μ-loop
 loop-holds c = (omega arith, search needs, omega arith, refl, omega arith, left-start _ _ _ _ _ _ (c .start .ensures))
@@ -32,10 +32,10 @@ enum-known-read : tie.Need-enum-known-read Inv-loop μ-loop
 enum-known-read c = search needs
 
 heed-requires : tie.Need-heed-requires Inv-loop μ-loop
-heed-requires c κs = search needs
+heed-requires c κs = tt
 
 relative-of-requires : tie.Need-relative-of-requires Inv-loop μ-loop
-relative-of-requires c κs = search needs
+relative-of-requires c κs = tt
 
 mul-relatives : tie.Need-mul-relatives Inv-loop μ-loop
 mul-relatives c = search needs
@@ -47,7 +47,7 @@ add-found : tie.Need-add-found Inv-loop μ-loop
 add-found c = search needs
 
 digits-used-requires : tie.Need-digits-used-requires Inv-loop μ-loop
-digits-used-requires c κs = search needs
+digits-used-requires c κs = tt
 
 add-used : tie.Need-add-used Inv-loop μ-loop
 add-used c = search needs
@@ -87,7 +87,7 @@ returns-2 : tie.Need-returns-2 Inv-loop μ-loop
 returns-2 c = let l = c .before .before in left-over _ _ _ _ _ _ _ _ _ _ (l .loop .inv .5) (l .loop .inv .0) (c .before .loop-test .left) (rw (length-lowered _) (c .if1 .taken))
 
 build-requires : tie.Need-build-requires Inv-loop μ-loop
-build-requires c κs = search needs
+build-requires c κs = tt
 
 returns-3 : tie.Need-returns-3 Inv-loop μ-loop
 returns-3 c = let l = c .before .before .before in left-built _ _ _ _ _ _ _ _ _ _ (l .loop .inv .5) (l .loop .inv .0) (c .before .before .loop-test .left) (rw (length-lowered _) (c .before .if1 .left)) _ (c .build .ensures)

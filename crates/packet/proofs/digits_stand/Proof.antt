@@ -8,7 +8,7 @@ add-result : tie.Need-add-result
 add-result c = search needs
 
 digits-requires : tie.Need-digits-requires
-digits-requires c κs = search needs
+digits-requires c κs = tt
 
 returns : tie.Need-returns
 unfolding digitsStand

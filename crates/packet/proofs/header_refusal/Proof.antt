@@ -8,7 +8,7 @@ returns : tie.Need-returns
 returns c = search steps
 
 u16-at-requires : tie.Need-u16-at-requires
-u16-at-requires c κs = search needs
+u16-at-requires c κs = tt
 
 cast-count : tie.Need-cast-count
 cast-count c = search needs
@@ -17,7 +17,7 @@ returns-2 : tie.Need-returns-2
 returns-2 c = search steps
 
 u16-at-requires-2 : tie.Need-u16-at-requires-2
-u16-at-requires-2 c κs = search needs
+u16-at-requires-2 c κs = tt
 
 returns-3 : tie.Need-returns-3
 returns-3 c = search steps
@@ -29,7 +29,7 @@ add-digits : tie.Need-add-digits
 add-digits c = search needs
 
 u16-at-requires-3 : tie.Need-u16-at-requires-3
-u16-at-requires-3 c κs = search needs
+u16-at-requires-3 c κs = tt
 
 cast-if4 : tie.Need-cast-if4
 cast-if4 c = search needs
@@ -38,7 +38,7 @@ returns-4 : tie.Need-returns-4
 returns-4 c = search steps
 
 u16-at-requires-4 : tie.Need-u16-at-requires-4
-u16-at-requires-4 c κs = search needs
+u16-at-requires-4 c κs = tt
 
 cast-if5 : tie.Need-cast-if5
 cast-if5 c = search needs

@@ -8,13 +8,13 @@ cast-packet-item : tie.Need-cast-packet-item
 cast-packet-item c = search needs
 
 packet-item-requires : tie.Need-packet-item-requires
-packet-item-requires c κs = search needs
+packet-item-requires c κs = tt
 
 cast-unpack : tie.Need-cast-unpack
 cast-unpack c = search needs
 
 unpack-requires : tie.Need-unpack-requires
-unpack-requires c κs = search needs
+unpack-requires c κs = tt
 
 enum-known-item : tie.Need-enum-known-item
 enum-known-item c = search needs
@@ -26,7 +26,7 @@ returns : tie.Need-returns
 returns c = search steps
 
 digits-used-requires : tie.Need-digits-used-requires
-digits-used-requires c κs = search needs
+digits-used-requires c κs = tt
 
 digits-stand-requires : tie.Need-digits-stand-requires
 digits-stand-requires c κs = search needs

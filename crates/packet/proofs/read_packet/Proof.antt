@@ -21,19 +21,19 @@ whole : (c : tie.After-u16-at2) → 8 + 28 * c .before .u16-at .result + c .u16-
 whole c = rw (c .before .u16-at .ensures, c .u16-at2 .ensures) (sym (exact (c .before .before .before .before .before .before .before .args .packet .now) (good (c .before .before))))
 
 refusal-requires : tie.Need-refusal-requires
-refusal-requires c κs = search needs
+refusal-requires c κs = tt
 
 returns : tie.Need-returns
 returns c = search steps
 
 header-refusal-requires : tie.Need-header-refusal-requires
-header-refusal-requires c κs = search needs
+header-refusal-requires c κs = tt
 
 returns-2 : tie.Need-returns-2
 returns-2 c = search steps
 
 u16-at-requires : tie.Need-u16-at-requires
-u16-at-requires c κs = search needs
+u16-at-requires c κs = tt
 
 cast-count : tie.Need-cast-count
 cast-count c = search needs
@@ -45,7 +45,7 @@ add-digits : tie.Need-add-digits
 add-digits c = search needs
 
 u16-at-requires-2 : tie.Need-u16-at-requires-2
-u16-at-requires-2 c κs = search needs
+u16-at-requires-2 c κs = tt
 
 cast-end : tie.Need-cast-end
 cast-end c = search needs

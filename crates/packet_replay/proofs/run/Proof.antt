@@ -13,16 +13,16 @@ abbrev μ-loop : tie.MeasureT-loop
 μ-loop list packet₀ output₀ n at₀ i₀ packet output at i = n - i
 
 read-full-requires : tie.Need-read-full-requires Inv-loop μ-loop
-read-full-requires c κs = search needs
+read-full-requires c κs = tt
 
 line-from-requires : tie.Need-line-from-requires Inv-loop μ-loop
-line-from-requires c κs = search needs
+line-from-requires c κs = tt
 
 loop-holds : tie.Need-loop-holds Inv-loop μ-loop
 loop-holds c = search needs
 
 step-requires : tie.Need-step-requires Inv-loop μ-loop
-step-requires c κs = search needs
+step-requires c κs = tt
 
 add-i : tie.Need-add-i Inv-loop μ-loop
 add-i c = search needs

@@ -1,12 +1,11 @@
 -- `alpha1` reads one letter or more, from what `letters` ensures. Assumes nothing.
 use Rattle.primitive.proofs.Runs.{runs}
 use Rattle.primitive.specs.Primitive.{alpha1}
-use borrow.Author.Needs.{needs}
 use Rattle.primitive.proofs.alpha1.Statement.{statement}
 use Rattle.primitive.proofs.alpha1.Tie as tie
 
 letters-requires : tie.Need-letters-requires
-letters-requires c κs = search needs
+letters-requires c κs = tt
 
 returns : tie.Need-returns
 unfolding alpha1

@@ -8,7 +8,7 @@ shared-slice-read-lowers-to : tie.Need-shared-slice-read-lowers-to
 shared-slice-read-lowers-to c = search needs
 
 lowers-to-requires : tie.Need-lowers-to-requires
-lowers-to-requires c κs = search needs
+lowers-to-requires c κs = tt
 
 add-t9 : tie.Need-add-t9
 add-t9 c = search needs

@@ -1,12 +1,11 @@
 -- `dec_uint_str` reads one digit or more, from what `digits` ensures. Assumes nothing.
 use Rattle.primitive.proofs.Runs.{runs}
 use Rattle.primitive.specs.Primitive.{dec-uint-str}
-use borrow.Author.Needs.{needs}
 use Rattle.primitive.proofs.dec_uint_str.Statement.{statement}
 use Rattle.primitive.proofs.dec_uint_str.Tie as tie
 
 digits-requires : tie.Need-digits-requires
-digits-requires c κs = search needs
+digits-requires c κs = tt
 
 returns : tie.Need-returns
 unfolding dec-uint-str

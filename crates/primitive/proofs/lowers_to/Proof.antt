@@ -1,6 +1,5 @@
 -- `lowers_to` compares the byte itself or its lower case. Assumes nothing.
 use Rattle.primitive.proofs.Tags.{tags}
-use borrow.Author.Needs.{needs}
 use Rattle.primitive.proofs.lowers_to.Statement.{statement}
 use Rattle.primitive.proofs.lowers_to.Tie as tie
 
@@ -8,7 +7,7 @@ returns : tie.Need-returns
 returns c = search tags
 
 to-lower-requires : tie.Need-to-lower-requires
-to-lower-requires c κs = search needs
+to-lower-requires c κs = tt
 
 returns-2 : tie.Need-returns-2
 returns-2 c = search tags

@@ -1,12 +1,11 @@
 -- `multispace1` reads one blank or more, from what `multispace0` ensures. Assumes nothing.
 use Rattle.primitive.proofs.Runs.{runs}
 use Rattle.primitive.specs.Primitive.{multispace1}
-use borrow.Author.Needs.{needs}
 use Rattle.primitive.proofs.multispace1.Statement.{statement}
 use Rattle.primitive.proofs.multispace1.Tie as tie
 
 multispace0-requires : tie.Need-multispace0-requires
-multispace0-requires c κs = search needs
+multispace0-requires c κs = tt
 
 returns : tie.Need-returns
 unfolding multispace1

@@ -16,7 +16,7 @@ amount-fits : (c : tie.After-moved) → SFits w32 (c .before .before .unit .give
 amount-fits c = search needs
 
 read-shape-requires : tie.Need-read-shape-requires
-read-shape-requires c κs = search needs
+read-shape-requires c κs = tt
 
 enum-known-x : tie.Need-enum-known-x
 enum-known-x c = search needs
@@ -43,7 +43,7 @@ returns-3 : tie.Need-returns-3
 returns-3 c = rw (c .enum-told2 .given .1) tt
 
 shift-requires : tie.Need-shift-requires
-shift-requires c κs = search needs
+shift-requires c κs = tt
 
 enum-known-unit : tie.Need-enum-known-unit
 enum-known-unit c = search needs

@@ -13,7 +13,7 @@ use Rattle.quick.proofs.Places.{mark}
 use Rattle.quick.proofs.Fronts.{iso-there, clock-there, iso-end, iso-inside, iso-day, iso-clock}
 
 iso-date-requires : tie.Need-iso-date-requires
-iso-date-requires c κs = search needs
+iso-date-requires c κs = tt
 
 enum-known-year : tie.Need-enum-known-year
 enum-known-year c = search needs
@@ -25,7 +25,7 @@ returns : tie.Need-returns
 returns c = search needs
 
 midnight-requires : tie.Need-midnight-requires
-midnight-requires c κs = search needs
+midnight-requires c κs = tt
 
 returns-2 : tie.Need-returns-2
 returns-2 c = let k = c .before .before in rw (c .midnight .ensures) (iso-end (iso-there _ (k .before .before .before .iso-date .ensures) (k .before .year .given .1)) (rw length-lowered (c .before .if1 .taken)))
@@ -40,7 +40,7 @@ timed-requires : tie.Need-timed-requires
 timed-requires c κs = let k = c .before .before in iso-inside _ (iso-there _ (k .before .before .before .iso-date .ensures) (k .before .year .given .1)) (c .before .if1 .left)
 
 clock-requires : tie.Need-clock-requires
-clock-requires c κs = search needs
+clock-requires c κs = tt
 
 enum-known-hour : tie.Need-enum-known-hour
 enum-known-hour c = search needs
@@ -58,7 +58,7 @@ returns-4 c =
     iso-clock (iso-there _ (k .before .before .before .iso-date .ensures) (k .before .year .given .1)) (w .timed .ensures (c .before .before .before .before .if2 .taken)) (clock-there _ (c .before .before .before .clock .ensures) (c .before .hour .given .1))
 
 midnight-requires-2 : tie.Need-midnight-requires-2
-midnight-requires-2 c κs = search needs
+midnight-requires-2 c κs = tt
 
 returns-5 : tie.Need-returns-5
 unfolding lower

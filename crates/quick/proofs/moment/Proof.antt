@@ -31,7 +31,7 @@ offset-or-requires : tie.Need-offset-or-requires
 offset-or-requires c κs = search needs
 
 new-requires : tie.Need-new-requires
-new-requires c κs = search needs
+new-requires c κs = tt
 
 returns : tie.Need-returns
 returns c = rw (toZ-ofZ (given-fits c), c .before .offset-or .ensures, toZ-ofZ (base-fits c)) at (c .new .ensures)

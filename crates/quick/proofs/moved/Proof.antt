@@ -25,13 +25,13 @@ enum-told : tie.Need-enum-told
 enum-told c = search needs
 
 checked-add-years-requires : tie.Need-checked-add-years-requires
-checked-add-years-requires c κs = search needs
+checked-add-years-requires c κs = tt
 
 enum-told-2 : tie.Need-enum-told-2
 enum-told-2 c = search needs
 
 checked-add-months-requires : tie.Need-checked-add-months-requires
-checked-add-months-requires c κs = search needs
+checked-add-months-requires c κs = tt
 
 enum-told-3 : tie.Need-enum-told-3
 enum-told-3 c = search needs
@@ -43,7 +43,7 @@ mul-checked-add-days : tie.Need-mul-checked-add-days
 mul-checked-add-days c = rw (same (c .before .before)) (weeks-fit (c .before .before))
 
 checked-add-days-requires : tie.Need-checked-add-days-requires
-checked-add-days-requires c κs = search needs
+checked-add-days-requires c κs = tt
 
 enum-told-4 : tie.Need-enum-told-4
 enum-told-4 c = search needs
@@ -52,7 +52,7 @@ cast-checked-add-days-2 : tie.Need-cast-checked-add-days-2
 cast-checked-add-days-2 c = wide (c .before .before)
 
 checked-add-days-requires-2 : tie.Need-checked-add-days-requires-2
-checked-add-days-requires-2 c κs = search needs
+checked-add-days-requires-2 c κs = tt
 
 enum-told-5 : tie.Need-enum-told-5
 enum-told-5 c = search needs
@@ -61,7 +61,7 @@ cast-checked-add-hours : tie.Need-cast-checked-add-hours
 cast-checked-add-hours c = wide (c .before .before)
 
 checked-add-hours-requires : tie.Need-checked-add-hours-requires
-checked-add-hours-requires c κs = search needs
+checked-add-hours-requires c κs = tt
 
 enum-told-6 : tie.Need-enum-told-6
 enum-told-6 c = search needs
@@ -70,7 +70,7 @@ cast-checked-add-seconds : tie.Need-cast-checked-add-seconds
 cast-checked-add-seconds c = wide (c .before .before)
 
 checked-add-seconds-requires : tie.Need-checked-add-seconds-requires
-checked-add-seconds-requires c κs = search needs
+checked-add-seconds-requires c κs = tt
 
 returns : tie.Need-returns
 unfolding addRelative

@@ -25,7 +25,7 @@ cast-t9 : tie.Need-cast-t9
 cast-t9 c = let p = small-zone _ (c .before .zone .given .1) (c .before .before .before .pre) in record { fits = omega (arith, p .1) }
 
 total-seconds-requires : tie.Need-total-seconds-requires
-total-seconds-requires c κs = search needs
+total-seconds-requires c κs = tt
 
 enum-told : tie.Need-enum-told
 enum-told c = search needs

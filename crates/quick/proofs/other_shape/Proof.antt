@@ -15,10 +15,10 @@ returns : tie.Need-returns
 returns c = search needs
 
 clocked-requires : tie.Need-clocked-requires
-clocked-requires c κs = search needs
+clocked-requires c κs = tt
 
 midnight-requires : tie.Need-midnight-requires
-midnight-requires c κs = search needs
+midnight-requires c κs = tt
 
 returns-2 : tie.Need-returns-2
 returns-2 c =
@@ -27,7 +27,7 @@ returns-2 c =
     rw (c .midnight .ensures) (other-day (other-there _ (p .0) (k .before .read .given .1)) (rw length-lowered (p .1)))
 
 half-day-requires : tie.Need-half-day-requires
-half-day-requires c κs = search needs
+half-day-requires c κs = tt
 
 enum-known-hour : tie.Need-enum-known-hour
 enum-known-hour c = search needs

@@ -5,13 +5,13 @@ use Rattle.quick.proofs.read_text.Tie as tie
 use Rattle.quick.proofs.Whole.{read-at-once}
 
 refusal-requires : tie.Need-refusal-requires
-refusal-requires c κs = search needs
+refusal-requires c κs = tt
 
 highest-requires : tie.Need-highest-requires
-highest-requires c κs = search needs
+highest-requires c κs = tt
 
 at-once-requires : tie.Need-at-once-requires
-at-once-requires c κs = search needs
+at-once-requires c κs = tt
 
 enum-known-dt : tie.Need-enum-known-dt
 enum-known-dt c = search needs
@@ -26,7 +26,7 @@ enum-told : tie.Need-enum-told
 enum-told c = search needs
 
 read-text-requires : tie.Need-read-text-requires
-read-text-requires c κs = search needs
+read-text-requires c κs = tt
 
 returns-2 : tie.Need-returns-2
 returns-2 c = search needs

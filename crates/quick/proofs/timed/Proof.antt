@@ -26,7 +26,7 @@ shared-slice-read-to-lower : tie.Need-shared-slice-read-to-lower
 shared-slice-read-to-lower c = search needs
 
 to-lower-requires : tie.Need-to-lower-requires
-to-lower-requires c κs = search needs
+to-lower-requires c κs = tt
 
 returns-3 : tie.Need-returns-3
 returns-3 c = λ _. separator-at _ _ _ false (omega arith) (c .before .to-lower .ensures) (c .if3 .taken)

@@ -17,16 +17,16 @@ abbrev μ-loop : tie.MeasureT-loop
 μ-loop text base standing₀ relatives₀ found₀ count₀ i₀ standing relatives found count i = 65 - count
 
 start-requires : tie.Need-start-requires Inv-loop μ-loop
-start-requires c κs = search needs
+start-requires c κs = tt
 
 loop-holds : tie.Need-loop-holds Inv-loop μ-loop
 loop-holds c = (omega arith, omega arith, refl, left-start _ _ _ _ (c .start .ensures))
 
 space-requires : tie.Need-space-requires Inv-loop μ-loop
-space-requires c κs = search needs
+space-requires c κs = tt
 
 parse-item-requires : tie.Need-parse-item-requires Inv-loop μ-loop
-parse-item-requires c κs = search needs
+parse-item-requires c κs = tt
 
 enum-known-read : tie.Need-enum-known-read Inv-loop μ-loop
 enum-known-read c = search needs
@@ -47,10 +47,10 @@ part-heed-end : tie.Need-part-heed-end Inv-loop μ-loop
 part-heed-end c = search needs
 
 heed-requires : tie.Need-heed-requires Inv-loop μ-loop
-heed-requires c κs = search needs
+heed-requires c κs = tt
 
 relative-of-requires : tie.Need-relative-of-requires Inv-loop μ-loop
-relative-of-requires c κs = search needs
+relative-of-requires c κs = tt
 
 mul-relatives : tie.Need-mul-relatives Inv-loop μ-loop
 mul-relatives c = search needs
@@ -100,7 +100,7 @@ returns-3 c =
     left-stopped _ _ _ _ _ _ _ _ (l .loop .inv .3) _ (r .before .before .space .ensures) (r .before .if1 .taken) _ (r .parse-item .ensures) (c .enum-told2 .given .1)
 
 build-requires : tie.Need-build-requires Inv-loop μ-loop
-build-requires c κs = search needs
+build-requires c κs = tt
 
 returns-4 : tie.Need-returns-4 Inv-loop μ-loop
 returns-4 c = let l = c .before .before .before in left-end _ _ _ _ _ _ _ _ (l .loop .inv .3) _ (c .before .before .space .ensures) (c .before .if1 .left) _ (c .build .ensures)

@@ -1,12 +1,11 @@
 -- `read_text` is its definition. Assumes nothing.
-use borrow.Author.Needs.{needs}
 use Rattle.reading.proofs.read_text.Statement.{statement}
 use Rattle.reading.proofs.read_text.Tie as tie
 use Rattle.reading.proofs.Steps.{steps}
 use Rattle.reading.specs.Reading.{readText}
 
 refusal-requires : tie.Need-refusal-requires
-refusal-requires c κs = search needs
+refusal-requires c κs = tt
 
 returns : tie.Need-returns
 returns c = search steps
@@ -15,13 +14,13 @@ returns-2 : tie.Need-returns-2
 returns-2 c = search steps
 
 ascii-end-requires : tie.Need-ascii-end-requires
-ascii-end-requires c κs = search needs
+ascii-end-requires c κs = tt
 
 returns-3 : tie.Need-returns-3
 returns-3 c = search steps
 
 build-text-requires : tie.Need-build-text-requires
-build-text-requires c κs = search needs
+build-text-requires c κs = tt
 
 returns-4 : tie.Need-returns-4
 returns-4 c = search steps

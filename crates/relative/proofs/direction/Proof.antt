@@ -10,7 +10,7 @@ slice-aggregate-spaced-tag : tie.Need-slice-aggregate-spaced-tag
 slice-aggregate-spaced-tag c = search needs
 
 spaced-tag-requires : tie.Need-spaced-tag-requires
-spaced-tag-requires c κs = search needs
+spaced-tag-requires c κs = tt
 
 enum-known-next : tie.Need-enum-known-next
 enum-known-next c = search needs
@@ -26,7 +26,7 @@ slice-aggregate-spaced-tag-2 : tie.Need-slice-aggregate-spaced-tag-2
 slice-aggregate-spaced-tag-2 c = search needs
 
 spaced-tag-requires-2 : tie.Need-spaced-tag-requires-2
-spaced-tag-requires-2 c κs = search needs
+spaced-tag-requires-2 c κs = tt
 
 enum-known-next-2 : tie.Need-enum-known-next-2
 enum-known-next-2 c = search needs

@@ -13,10 +13,10 @@ use Rattle.relative.proofs.displaced.Statement.{statement}
 use Rattle.relative.proofs.displaced.Tie as tie
 
 space-requires : tie.Need-space-requires
-space-requires c κs = search needs
+space-requires c κs = tt
 
 alpha1-requires : tie.Need-alpha1-requires
-alpha1-requires c κs = search needs
+alpha1-requires c κs = tt
 
 enum-known-end : tie.Need-enum-known-end
 enum-known-end c = search needs
@@ -29,7 +29,7 @@ unfolding displaced
 returns c = search turned
 
 direction-requires : tie.Need-direction-requires
-direction-requires c κs = search needs
+direction-requires c κs = tt
 
 multiplier-requires : tie.Need-multiplier-requires
 multiplier-requires c κs = search needs

@@ -6,7 +6,7 @@ use Rattle.relative.proofs.displacement.Statement.{statement}
 use Rattle.relative.proofs.displacement.Tie as tie
 
 ordinal-requires : tie.Need-ordinal-requires
-ordinal-requires c κs = search needs
+ordinal-requires c κs = tt
 
 enum-known-n : tie.Need-enum-known-n
 enum-known-n c = search needs

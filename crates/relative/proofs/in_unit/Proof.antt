@@ -26,7 +26,7 @@ slice-aggregate-find-word : tie.Need-slice-aggregate-find-word
 slice-aggregate-find-word c = search needs
 
 find-word-requires : tie.Need-find-word-requires
-find-word-requires c κs = search needs
+find-word-requires c κs = tt
 
 days-requires : tie.Need-days-requires
 days-requires c κs = search needs

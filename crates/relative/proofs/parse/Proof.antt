@@ -6,7 +6,7 @@ use Rattle.relative.proofs.parse.Statement.{statement}
 use Rattle.relative.proofs.parse.Tie as tie
 
 seconds-requires : tie.Need-seconds-requires
-seconds-requires c κs = search needs
+seconds-requires c κs = tt
 
 enum-known-v : tie.Need-enum-known-v
 enum-known-v c = search needs
@@ -15,7 +15,7 @@ enum-told : tie.Need-enum-told
 enum-told c = search needs
 
 displacement-requires : tie.Need-displacement-requires
-displacement-requires c κs = search needs
+displacement-requires c κs = tt
 
 returns : tie.Need-returns
 unfolding parse

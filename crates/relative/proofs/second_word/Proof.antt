@@ -10,10 +10,10 @@ use Rattle.relative.proofs.second_word.Statement.{statement}
 use Rattle.relative.proofs.second_word.Tie as tie
 
 space-requires : tie.Need-space-requires
-space-requires c κs = search needs
+space-requires c κs = tt
 
 alpha1-requires : tie.Need-alpha1-requires
-alpha1-requires c κs = search needs
+alpha1-requires c κs = tt
 
 enum-known-end : tie.Need-enum-known-end
 enum-known-end c = search needs
@@ -29,7 +29,7 @@ slice-aggregate-find-word : tie.Need-slice-aggregate-find-word
 slice-aggregate-find-word c = search needs
 
 find-word-requires : tie.Need-find-word-requires
-find-word-requires c κs = search needs
+find-word-requires c κs = tt
 
 returns-2 : tie.Need-returns-2
 unfolding second-word second-words bytes words keys values

@@ -6,13 +6,13 @@ use Rattle.relative.proofs.seconds.Statement.{statement}
 use Rattle.relative.proofs.seconds.Tie as tie
 
 plus-or-minus-requires : tie.Need-plus-or-minus-requires
-plus-or-minus-requires c κs = search needs
+plus-or-minus-requires c κs = tt
 
 enum-known-negative : tie.Need-enum-known-negative
 enum-known-negative c = search needs
 
 signed-seconds-requires : tie.Need-signed-seconds-requires
-signed-seconds-requires c κs = search needs
+signed-seconds-requires c κs = tt
 
 returns : tie.Need-returns
 unfolding seconds
@@ -22,7 +22,7 @@ enum-told : tie.Need-enum-told
 enum-told c = search needs
 
 signed-seconds-requires-2 : tie.Need-signed-seconds-requires-2
-signed-seconds-requires-2 c κs = search needs
+signed-seconds-requires-2 c κs = tt
 
 returns-2 : tie.Need-returns-2
 unfolding seconds

@@ -6,10 +6,10 @@ use Rattle.relative.proofs.signed_seconds.Statement.{statement}
 use Rattle.relative.proofs.signed_seconds.Tie as tie
 
 space-requires : tie.Need-space-requires
-space-requires c κs = search needs
+space-requires c κs = tt
 
 sec-and-nsec-requires : tie.Need-sec-and-nsec-requires
-sec-and-nsec-requires c κs = search needs
+sec-and-nsec-requires c κs = tt
 
 enum-known-v : tie.Need-enum-known-v
 enum-known-v c = search needs
@@ -22,7 +22,7 @@ unfolding signed-seconds
 returns c = search turned
 
 second-word-requires : tie.Need-second-word-requires
-second-word-requires c κs = search needs
+second-word-requires c κs = tt
 
 enum-known-at : tie.Need-enum-known-at
 enum-known-at c = search needs
@@ -35,14 +35,14 @@ unfolding signed-seconds
 returns-2 c = search turned
 
 direction-requires : tie.Need-direction-requires
-direction-requires c κs = search needs
+direction-requires c κs = tt
 
 returns-3 : tie.Need-returns-3
 unfolding signed-seconds
 returns-3 c = search turned
 
 turned-requires : tie.Need-turned-requires
-turned-requires c κs = search needs
+turned-requires c κs = tt
 
 rounded-requires : tie.Need-rounded-requires
 rounded-requires c κs = search turned

@@ -23,7 +23,7 @@ cast-t6 : tie.Need-cast-t6
 cast-t6 c = record { fits = omega (arith, low c) }
 
 blank-requires : tie.Need-blank-requires
-blank-requires c κs = search needs
+blank-requires c κs = tt
 
 returns : tie.Need-returns
 unfolding placedAnswer

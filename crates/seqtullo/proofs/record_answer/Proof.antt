@@ -14,7 +14,7 @@ enum-known-made-2 : tie.Need-enum-known-made-2
 enum-known-made-2 c = search needs
 
 blank-requires : tie.Need-blank-requires
-blank-requires c κs = search needs
+blank-requires c κs = tt
 
 returns : tie.Need-returns
 unfolding recordAnswer

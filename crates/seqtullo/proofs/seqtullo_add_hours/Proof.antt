@@ -1,16 +1,15 @@
 -- `seqtullo::seqtullo_add_hours` meets its contract, by that of `checked_add_hours`. Assumes nothing.
 use mathlib.Core.Path.{_∙_, ap}
 use mir.Facts.{toZ-ofZ}
-use borrow.Author.Needs.{needs}
 use Rattle.seqtullo.specs.Hosts.{recordAnswer}
 use Rattle.seqtullo.proofs.seqtullo_add_hours.Statement.{statement}
 use Rattle.seqtullo.proofs.seqtullo_add_hours.Tie as tie
 
 checked-add-hours-requires : tie.Need-checked-add-hours-requires
-checked-add-hours-requires c κs = search needs
+checked-add-hours-requires c κs = tt
 
 record-answer-requires : tie.Need-record-answer-requires
-record-answer-requires c κs = search needs
+record-answer-requires c κs = tt
 
 returns : tie.Need-returns
 returns c = c .record-answer .ensures ∙ ap recordAnswer (rw (toZ-ofZ (c .before .before .fits .hours)) at (c .before .checked-add-hours .ensures))

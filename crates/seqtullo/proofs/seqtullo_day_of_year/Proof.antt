@@ -1,15 +1,14 @@
 -- `seqtullo::seqtullo_day_of_year` meets its contract, by that of `day_of_year`. Assumes nothing.
 use mathlib.Core.Path.{_∙_, ap}
-use borrow.Author.Needs.{needs}
 use Rattle.seqtullo.specs.Hosts.{numberAnswer}
 use Rattle.seqtullo.proofs.seqtullo_day_of_year.Statement.{statement}
 use Rattle.seqtullo.proofs.seqtullo_day_of_year.Tie as tie
 
 day-of-year-requires : tie.Need-day-of-year-requires
-day-of-year-requires c κs = search needs
+day-of-year-requires c κs = tt
 
 number-answer-requires : tie.Need-number-answer-requires
-number-answer-requires c κs = search needs
+number-answer-requires c κs = tt
 
 returns : tie.Need-returns
 returns c = c .number-answer .ensures ∙ ap numberAnswer (c .before .day-of-year .ensures)

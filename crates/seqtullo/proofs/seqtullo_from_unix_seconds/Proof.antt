@@ -1,16 +1,15 @@
 -- `seqtullo::seqtullo_from_unix_seconds` meets its contract, by that of `from_unix_seconds`. Assumes nothing.
 use mathlib.Core.Path.{_∙_, ap}
 use mir.Facts.{toZ-ofZ}
-use borrow.Author.Needs.{needs}
 use Rattle.seqtullo.specs.Hosts.{recordAnswer}
 use Rattle.seqtullo.proofs.seqtullo_from_unix_seconds.Statement.{statement}
 use Rattle.seqtullo.proofs.seqtullo_from_unix_seconds.Tie as tie
 
 from-unix-seconds-requires : tie.Need-from-unix-seconds-requires
-from-unix-seconds-requires c κs = search needs
+from-unix-seconds-requires c κs = tt
 
 record-answer-requires : tie.Need-record-answer-requires
-record-answer-requires c κs = search needs
+record-answer-requires c κs = tt
 
 returns : tie.Need-returns
 returns c =

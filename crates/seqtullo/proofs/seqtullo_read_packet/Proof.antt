@@ -2,7 +2,6 @@
 use mathlib.Core.Path.{_≡_, ap, _∙_}
 use native.Mathlib.Omega.{arith}
 use Prim.Native.Nat.{_≤_}
-use borrow.Author.Needs.{needs}
 use Rattle.rules.specs.Placed.{placeOf}
 use Rattle.packet.specs.Packet.{readPacket}
 use Rattle.packet.proofs.Places.{place-within}
@@ -11,7 +10,7 @@ use Rattle.seqtullo.proofs.seqtullo_read_packet.Statement.{statement}
 use Rattle.seqtullo.proofs.seqtullo_read_packet.Tie as tie
 
 read-packet-requires : tie.Need-read-packet-requires
-read-packet-requires c κs = search needs
+read-packet-requires c κs = tt
 
 placed-answer-requires : tie.Need-placed-answer-requires
 placed-answer-requires c κs =

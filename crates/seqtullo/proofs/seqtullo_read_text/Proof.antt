@@ -1,13 +1,12 @@
 -- `seqtullo_read_text` meets its contract: no place is past the text. Assumes nothing.
 use mathlib.Core.Path.{_≡_, ap, _∙_}
-use borrow.Author.Needs.{needs}
 use Rattle.round_trip.proofs.Places.{place-within}
 use Rattle.seqtullo.specs.Hosts.{placedAnswer}
 use Rattle.seqtullo.proofs.seqtullo_read_text.Statement.{statement}
 use Rattle.seqtullo.proofs.seqtullo_read_text.Tie as tie
 
 read-text-requires : tie.Need-read-text-requires
-read-text-requires c κs = search needs
+read-text-requires c κs = tt
 
 placed-answer-requires : tie.Need-placed-answer-requires
 placed-answer-requires c κs =

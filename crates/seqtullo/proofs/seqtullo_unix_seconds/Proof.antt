@@ -14,7 +14,7 @@ seconds-fits : (c : tie.After-known-told) → SFits w64 (c .before .moment .give
 seconds-fits c = search needs
 
 unix-seconds-requires : tie.Need-unix-seconds-requires
-unix-seconds-requires c κs = search needs
+unix-seconds-requires c κs = tt
 
 enum-known-moment : tie.Need-enum-known-moment
 enum-known-moment c = search needs

@@ -5,7 +5,7 @@ use Rattle.spaces.proofs.colon.Statement.{statement}
 use Rattle.spaces.proofs.colon.Tie as tie
 
 spaced-byte-requires : tie.Need-spaced-byte-requires
-spaced-byte-requires c κs = search needs
+spaced-byte-requires c κs = tt
 
 returns : tie.Need-returns
 unfolding colon

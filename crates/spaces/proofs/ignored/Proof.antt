@@ -5,7 +5,7 @@ use Rattle.spaces.proofs.ignored.Statement.{statement}
 use Rattle.spaces.proofs.ignored.Tie as tie
 
 byte-requires : tie.Need-byte-requires
-byte-requires c κs = search needs
+byte-requires c κs = tt
 
 enum-told : tie.Need-enum-told
 enum-told c = search needs
@@ -14,13 +14,13 @@ enum-told-2 : tie.Need-enum-told-2
 enum-told-2 c = search needs
 
 ignored-hyphen-or-plus-requires : tie.Need-ignored-hyphen-or-plus-requires
-ignored-hyphen-or-plus-requires c κs = search needs
+ignored-hyphen-or-plus-requires c κs = tt
 
 returns : tie.Need-returns
 returns c = search spaces
 
 comment-requires : tie.Need-comment-requires
-comment-requires c κs = search needs
+comment-requires c κs = tt
 
 returns-2 : tie.Need-returns-2
 returns-2 c = search spaces

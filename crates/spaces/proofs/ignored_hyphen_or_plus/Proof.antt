@@ -6,7 +6,7 @@ use Rattle.spaces.proofs.ignored_hyphen_or_plus.Statement.{statement}
 use Rattle.spaces.proofs.ignored_hyphen_or_plus.Tie as tie
 
 sign-requires : tie.Need-sign-requires
-sign-requires c κs = search needs
+sign-requires c κs = tt
 
 enum-known-next : tie.Need-enum-known-next
 enum-known-next c = search needs
@@ -19,13 +19,13 @@ unfolding ignored-hyphen-or-plus
 returns c = search spaces
 
 multispace0-requires : tie.Need-multispace0-requires
-multispace0-requires c κs = search needs
+multispace0-requires c κs = tt
 
 shared-slice-read-is-digit : tie.Need-shared-slice-read-is-digit
 shared-slice-read-is-digit c = search needs
 
 is-digit-requires : tie.Need-is-digit-requires
-is-digit-requires c κs = search needs
+is-digit-requires c κs = tt
 
 returns-2 : tie.Need-returns-2
 unfolding ignored-hyphen-or-plus

@@ -1,14 +1,13 @@
 -- `plus_or_minus` reads at the place that `space` answers. Assumes nothing.
 use Rattle.primitive.specs.Primitive.{plus-or-minus}
-use borrow.Author.Needs.{needs}
 use Rattle.spaces.proofs.plus_or_minus.Statement.{statement}
 use Rattle.spaces.proofs.plus_or_minus.Tie as tie
 
 space-requires : tie.Need-space-requires
-space-requires c κs = search needs
+space-requires c κs = tt
 
 sign-requires : tie.Need-sign-requires
-sign-requires c κs = search needs
+sign-requires c κs = tt
 
 returns : tie.Need-returns
 unfolding plus-or-minus

@@ -20,7 +20,7 @@ shared-slice-read-is-digit : tie.Need-shared-slice-read-is-digit
 shared-slice-read-is-digit c = search needs
 
 is-digit-requires : tie.Need-is-digit-requires
-is-digit-requires c κs = search needs
+is-digit-requires c κs = tt
 
 returns-3 : tie.Need-returns-3
 returns-3 c = λ k. plus-kept _ _ (search needs) (search needs) _ (c .is-digit .ensures) k (search needs)
@@ -32,7 +32,7 @@ shared-slice-read-is-digit-2 : tie.Need-shared-slice-read-is-digit-2
 shared-slice-read-is-digit-2 c = search needs
 
 is-digit-requires-2 : tie.Need-is-digit-requires-2
-is-digit-requires-2 c κs = search needs
+is-digit-requires-2 c κs = tt
 
 returns-4 : tie.Need-returns-4
 returns-4 c = λ k. hyphen-kept _ _ (search needs) (search needs) _ (c .is-digit2 .ensures) k (search needs)

@@ -23,13 +23,13 @@ returns-3 : tie.Need-returns-3
 returns-3 c = search spaces
 
 signed-digit-requires : tie.Need-signed-digit-requires
-signed-digit-requires c κs = search needs
+signed-digit-requires c κs = tt
 
 returns-4 : tie.Need-returns-4
 returns-4 c = c .before .signed-digit .ensures (c .if6 .taken)
 
 skip-space-requires : tie.Need-skip-space-requires
-skip-space-requires c κs = search needs
+skip-space-requires c κs = tt
 
 returns-5 : tie.Need-returns-5
 returns-5 c = search spaces

@@ -14,16 +14,16 @@ shared-slice-read-is-digit : tie.Need-shared-slice-read-is-digit
 shared-slice-read-is-digit c = search needs
 
 is-digit-requires : tie.Need-is-digit-requires
-is-digit-requires c κs = search needs
+is-digit-requires c κs = tt
 
 returns : tie.Need-returns
 returns c = search spaces
 
 skip-space-requires : tie.Need-skip-space-requires
-skip-space-requires c κs = search needs
+skip-space-requires c κs = tt
 
 byte-requires : tie.Need-byte-requires
-byte-requires c κs = search needs
+byte-requires c κs = tt
 
 returns-2 : tie.Need-returns-2
 returns-2 c = rw (← c .before .skip-space .ensures) (c .byte .ensures)

@@ -1,13 +1,12 @@
 -- `spaced_tag` reads at the place that `space` answers. Assumes nothing.
-use borrow.Author.Needs.{needs}
 use Rattle.spaces.proofs.spaced_tag.Statement.{statement}
 use Rattle.spaces.proofs.spaced_tag.Tie as tie
 
 space-requires : tie.Need-space-requires
-space-requires c κs = search needs
+space-requires c κs = tt
 
 tag-requires : tie.Need-tag-requires
-tag-requires c κs = search needs
+tag-requires c κs = tt
 
 returns : tie.Need-returns
 returns c = rw (← c .before .space .ensures) (c .tag .ensures)

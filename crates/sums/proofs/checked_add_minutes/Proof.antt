@@ -1,12 +1,11 @@
 -- `checked_add_minutes` meets its contract, by that of `checked_add_units`. Assumes nothing.
 use mir.Facts.{toZ-ofZ}
-use borrow.Author.Needs.{needs}
 use Rattle.extended.specs.Extended.{addMinutes}
 use Rattle.sums.proofs.checked_add_minutes.Statement.{statement}
 use Rattle.sums.proofs.checked_add_minutes.Tie as tie
 
 checked-add-units-requires : tie.Need-checked-add-units-requires
-checked-add-units-requires c κs = search needs
+checked-add-units-requires c κs = tt
 
 returns : tie.Need-returns
 unfolding addMinutes

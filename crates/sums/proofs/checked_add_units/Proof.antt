@@ -23,14 +23,14 @@ seconds-fits : (c : tie.After-known-told) → SFits w64 (c .before .seconds .giv
 seconds-fits c = search needs
 
 refusal-requires : tie.Need-refusal-requires
-refusal-requires c κs = search needs
+refusal-requires c κs = tt
 
 returns : tie.Need-returns
 unfolding addUnits
 returns c = simp (refused-by (test (c .before .before .args .dt)) (c .before .refusal .ensures) (c .if1 .taken))
 
 checked-mul-requires : tie.Need-checked-mul-requires
-checked-mul-requires c κs = search needs
+checked-mul-requires c κs = tt
 
 enum-known-seconds : tie.Need-enum-known-seconds
 enum-known-seconds c = search needs
@@ -43,7 +43,7 @@ unfolding addUnits
 returns-2 c = simp (ok (c .before .before .before), sym (product-is (c .before .before)), c .enum-told .given .1)
 
 checked-add-seconds-requires : tie.Need-checked-add-seconds-requires
-checked-add-seconds-requires c κs = search needs
+checked-add-seconds-requires c κs = tt
 
 returns-3 : tie.Need-returns-3
 unfolding addUnits

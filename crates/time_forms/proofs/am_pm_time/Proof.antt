@@ -6,7 +6,7 @@ use Rattle.time_forms.proofs.am_pm_time.Statement.{statement}
 use Rattle.time_forms.proofs.am_pm_time.Tie as tie
 
 hour12-requires : tie.Need-hour12-requires
-hour12-requires c κs = search needs
+hour12-requires c κs = tt
 
 enum-known-hour : tie.Need-enum-known-hour
 enum-known-hour c = search needs
@@ -19,13 +19,13 @@ unfolding am-pm-time
 returns c = search times
 
 optional-minute-requires : tie.Need-optional-minute-requires
-optional-minute-requires c κs = search needs
+optional-minute-requires c κs = tt
 
 optional-second-requires : tie.Need-optional-second-requires
-optional-second-requires c κs = search needs
+optional-second-requires c κs = tt
 
 meridiem-requires : tie.Need-meridiem-requires
-meridiem-requires c κs = search needs
+meridiem-requires c κs = tt
 
 enum-known-pm : tie.Need-enum-known-pm
 enum-known-pm c = search needs
@@ -42,7 +42,7 @@ unfolding am-pm-time
 returns-3 c = search times
 
 hour-of-requires : tie.Need-hour-of-requires
-hour-of-requires c κs = search needs
+hour-of-requires c κs = tt
 
 returns-4 : tie.Need-returns-4
 unfolding am-pm-time

@@ -6,7 +6,7 @@ use Rattle.time_forms.proofs.below.Statement.{statement}
 use Rattle.time_forms.proofs.below.Tie as tie
 
 spaced-u8-requires : tie.Need-spaced-u8-requires
-spaced-u8-requires c κs = search needs
+spaced-u8-requires c κs = tt
 
 enum-known-v : tie.Need-enum-known-v
 enum-known-v c = search needs

@@ -5,7 +5,7 @@ use Rattle.time_forms.proofs.clock.Statement.{statement}
 use Rattle.time_forms.proofs.clock.Tie as tie
 
 minute-requires : tie.Need-minute-requires
-minute-requires c κs = search needs
+minute-requires c κs = tt
 
 enum-known-minute : tie.Need-enum-known-minute
 enum-known-minute c = search needs
@@ -17,10 +17,10 @@ returns : tie.Need-returns
 returns c = search times
 
 optional-second-requires : tie.Need-optional-second-requires
-optional-second-requires c κs = search needs
+optional-second-requires c κs = tt
 
 optional-correction-requires : tie.Need-optional-correction-requires
-optional-correction-requires c κs = search needs
+optional-correction-requires c κs = tt
 
 enum-known-offset : tie.Need-enum-known-offset
 enum-known-offset c = search needs

@@ -1,12 +1,11 @@
 -- `hour24` is a number below 24. Assumes nothing.
 use Rattle.times.proofs.Times.{times}
 use Rattle.times.specs.Time.{hour24}
-use borrow.Author.Needs.{needs}
 use Rattle.time_forms.proofs.hour24.Statement.{statement}
 use Rattle.time_forms.proofs.hour24.Tie as tie
 
 below-requires : tie.Need-below-requires
-below-requires c κs = search needs
+below-requires c κs = tt
 
 returns : tie.Need-returns
 unfolding hour24

@@ -5,7 +5,7 @@ use Rattle.time_forms.proofs.hour_offset.Statement.{statement}
 use Rattle.time_forms.proofs.hour_offset.Tie as tie
 
 timezone-offset-requires : tie.Need-timezone-offset-requires
-timezone-offset-requires c κs = search needs
+timezone-offset-requires c κs = tt
 
 enum-known-o : tie.Need-enum-known-o
 enum-known-o c = search needs

@@ -5,7 +5,7 @@ use Rattle.time_forms.proofs.iso.Statement.{statement}
 use Rattle.time_forms.proofs.iso.Tie as tie
 
 hour24-requires : tie.Need-hour24-requires
-hour24-requires c κs = search needs
+hour24-requires c κs = tt
 
 enum-known-hour : tie.Need-enum-known-hour
 enum-known-hour c = search needs
@@ -17,7 +17,7 @@ returns : tie.Need-returns
 returns c = search hours
 
 colon-requires : tie.Need-colon-requires
-colon-requires c κs = search needs
+colon-requires c κs = tt
 
 enum-known-next : tie.Need-enum-known-next
 enum-known-next c = search needs
@@ -26,13 +26,13 @@ enum-told-2 : tie.Need-enum-told-2
 enum-told-2 c = search needs
 
 hour-offset-requires : tie.Need-hour-offset-requires
-hour-offset-requires c κs = search needs
+hour-offset-requires c κs = tt
 
 returns-2 : tie.Need-returns-2
 returns-2 c = search hours
 
 clock-requires : tie.Need-clock-requires
-clock-requires c κs = search needs
+clock-requires c κs = tt
 
 returns-3 : tie.Need-returns-3
 returns-3 c = search hours

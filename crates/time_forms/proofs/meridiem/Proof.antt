@@ -10,7 +10,7 @@ slice-aggregate-spaced-tag : tie.Need-slice-aggregate-spaced-tag
 slice-aggregate-spaced-tag c = search needs
 
 spaced-tag-requires : tie.Need-spaced-tag-requires
-spaced-tag-requires c κs = search needs
+spaced-tag-requires c κs = tt
 
 enum-known-next : tie.Need-enum-known-next
 enum-known-next c = search needs
@@ -26,7 +26,7 @@ slice-aggregate-spaced-tag-2 : tie.Need-slice-aggregate-spaced-tag-2
 slice-aggregate-spaced-tag-2 c = search needs
 
 spaced-tag-requires-2 : tie.Need-spaced-tag-requires-2
-spaced-tag-requires-2 c κs = search needs
+spaced-tag-requires-2 c κs = tt
 
 enum-known-next-2 : tie.Need-enum-known-next-2
 enum-known-next-2 c = search needs
@@ -42,7 +42,7 @@ slice-aggregate-spaced-tag-3 : tie.Need-slice-aggregate-spaced-tag-3
 slice-aggregate-spaced-tag-3 c = search needs
 
 spaced-tag-requires-3 : tie.Need-spaced-tag-requires-3
-spaced-tag-requires-3 c κs = search needs
+spaced-tag-requires-3 c κs = tt
 
 enum-known-next-3 : tie.Need-enum-known-next-3
 enum-known-next-3 c = search needs
@@ -58,7 +58,7 @@ slice-aggregate-spaced-tag-4 : tie.Need-slice-aggregate-spaced-tag-4
 slice-aggregate-spaced-tag-4 c = search needs
 
 spaced-tag-requires-4 : tie.Need-spaced-tag-requires-4
-spaced-tag-requires-4 c κs = search needs
+spaced-tag-requires-4 c κs = tt
 
 enum-known-next-4 : tie.Need-enum-known-next-4
 enum-known-next-4 c = search needs

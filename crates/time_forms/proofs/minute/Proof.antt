@@ -1,12 +1,11 @@
 -- `minute` is a number below 60. Assumes nothing.
 use Rattle.times.proofs.Times.{times}
 use Rattle.times.specs.Time.{minute}
-use borrow.Author.Needs.{needs}
 use Rattle.time_forms.proofs.minute.Statement.{statement}
 use Rattle.time_forms.proofs.minute.Tie as tie
 
 below-requires : tie.Need-below-requires
-below-requires c κs = search needs
+below-requires c κs = tt
 
 returns : tie.Need-returns
 unfolding minute

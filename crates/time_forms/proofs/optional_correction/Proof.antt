@@ -6,7 +6,7 @@ use Rattle.time_forms.proofs.optional_correction.Statement.{statement}
 use Rattle.time_forms.proofs.optional_correction.Tie as tie
 
 time-zone-correction-requires : tie.Need-time-zone-correction-requires
-time-zone-correction-requires c κs = search needs
+time-zone-correction-requires c κs = tt
 
 enum-known-o : tie.Need-enum-known-o
 enum-known-o c = search needs

@@ -6,13 +6,13 @@ use Rattle.time_forms.proofs.optional_minute.Statement.{statement}
 use Rattle.time_forms.proofs.optional_minute.Tie as tie
 
 colon-requires : tie.Need-colon-requires
-colon-requires c κs = search needs
+colon-requires c κs = tt
 
 enum-known-start : tie.Need-enum-known-start
 enum-known-start c = search needs
 
 minute-requires : tie.Need-minute-requires
-minute-requires c κs = search needs
+minute-requires c κs = tt
 
 enum-known-minute : tie.Need-enum-known-minute
 enum-known-minute c = search needs

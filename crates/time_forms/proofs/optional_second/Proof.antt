@@ -6,13 +6,13 @@ use Rattle.time_forms.proofs.optional_second.Statement.{statement}
 use Rattle.time_forms.proofs.optional_second.Tie as tie
 
 colon-requires : tie.Need-colon-requires
-colon-requires c κs = search needs
+colon-requires c κs = tt
 
 enum-known-start : tie.Need-enum-known-start
 enum-known-start c = search needs
 
 second-requires : tie.Need-second-requires
-second-requires c κs = search needs
+second-requires c κs = tt
 
 enum-known-value : tie.Need-enum-known-value
 enum-known-value c = search needs

@@ -6,7 +6,7 @@ use Rattle.time_forms.proofs.parse.Statement.{statement}
 use Rattle.time_forms.proofs.parse.Tie as tie
 
 am-pm-time-requires : tie.Need-am-pm-time-requires
-am-pm-time-requires c κs = search needs
+am-pm-time-requires c κs = tt
 
 enum-known-t : tie.Need-enum-known-t
 enum-known-t c = search needs
@@ -15,7 +15,7 @@ enum-told : tie.Need-enum-told
 enum-told c = search needs
 
 iso-requires : tie.Need-iso-requires
-iso-requires c κs = search needs
+iso-requires c κs = tt
 
 enum-told-2 : tie.Need-enum-told-2
 enum-told-2 c = search needs

@@ -6,10 +6,10 @@ use Rattle.time_forms.proofs.second.Statement.{statement}
 use Rattle.time_forms.proofs.second.Tie as tie
 
 space-requires : tie.Need-space-requires
-space-requires c κs = search needs
+space-requires c κs = tt
 
 sec-and-nsec-requires : tie.Need-sec-and-nsec-requires
-sec-and-nsec-requires c κs = search needs
+sec-and-nsec-requires c κs = tt
 
 enum-known-v : tie.Need-enum-known-v
 enum-known-v c = search needs

@@ -5,10 +5,10 @@ use Rattle.words.proofs.find_word.Statement.{statement}
 use Rattle.words.proofs.find_word.Tie as tie
 
 min-requires : tie.Need-min-requires
-min-requires c κs = search needs
+min-requires c κs = tt
 
 min-requires-2 : tie.Need-min-requires-2
-min-requires-2 c κs = search needs
+min-requires-2 c κs = tt
 
 scan-table-requires : tie.Need-scan-table-requires
 scan-table-requires c κs = search needs

@@ -15,7 +15,7 @@ digits-most c =
     year-width (c .before .args .«record» .year) (omega arith) .1
 
 year-width-requires : tie.Need-year-width-requires
-year-width-requires c κs = search needs
+year-width-requires c κs = tt
 
 put-digits-requires : tie.Need-put-digits-requires
 put-digits-requires c κs = omega (arith, c .year-width .ensures, digits-most c)

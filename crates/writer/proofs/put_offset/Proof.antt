@@ -6,10 +6,10 @@ use Rattle.writer.proofs.put_offset.Statement.{statement}
 use Rattle.writer.proofs.put_offset.Tie as tie
 
 magnitude-requires : tie.Need-magnitude-requires
-magnitude-requires c κs = search needs
+magnitude-requires c κs = tt
 
 sign-requires : tie.Need-sign-requires
-sign-requires c κs = search needs
+sign-requires c κs = tt
 
 put-field-requires : tie.Need-put-field-requires
 put-field-requires c κs = search needs

@@ -20,7 +20,7 @@ offset-fits : (c : tie.After-struct-told) → SFits w32 (c .before .before .befo
 offset-fits c = search needs
 
 put-date-requires : tie.Need-put-date-requires
-put-date-requires c κs = search needs
+put-date-requires c κs = tt
 
 put-time-requires : tie.Need-put-time-requires
 put-time-requires c κs = omega (arith, c .put-date .ensures .1, digits-most c)

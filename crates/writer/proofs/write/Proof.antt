@@ -58,10 +58,10 @@ copied c =
     some-room (R (c .before .before .before .before .before .before .before)) (room (c .before .before .before .before .before .before .before)) (tested (c .before .before .before .before .before)) (whole (c .before .before)) (omega (arith, length-is (c .before), c .if3 .left))
 
 refusal-requires : tie.Need-refusal-requires
-refusal-requires c κs = search needs
+refusal-requires c κs = tt
 
 refused-requires : tie.Need-refused-requires
-refused-requires c κs = search needs
+refused-requires c κs = tt
 
 returns : tie.Need-returns
 returns c =
@@ -70,10 +70,10 @@ returns c =
     (rw w (c .refused .ensures), rw w)
 
 magnitude-requires : tie.Need-magnitude-requires
-magnitude-requires c κs = search needs
+magnitude-requires c κs = tt
 
 refused-requires-2 : tie.Need-refused-requires-2
-refused-requires-2 c κs = search needs
+refused-requires-2 c κs = tt
 
 returns-2 : tie.Need-returns-2
 returns-2 c =
@@ -83,10 +83,10 @@ returns-2 c =
     (rw w (c .refused2 .ensures), rw w)
 
 text-of-requires : tie.Need-text-of-requires
-text-of-requires c κs = search needs
+text-of-requires c κs = tt
 
 refused-requires-3 : tie.Need-refused-requires-3
-refused-requires-3 c κs = search needs
+refused-requires-3 c κs = tt
 
 returns-3 : tie.Need-returns-3
 returns-3 c =

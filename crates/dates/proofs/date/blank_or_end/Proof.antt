@@ -6,7 +6,7 @@ use Rattle.dates.proofs.date.blank_or_end.Statement.{statement}
 use Rattle.dates.proofs.date.blank_or_end.Tie as tie
 
 multispace1-requires : tie.Need-multispace1-requires
-multispace1-requires c κs = search needs
+multispace1-requires c κs = tt
 
 enum-known-next : tie.Need-enum-known-next
 enum-known-next c = search needs
@@ -15,7 +15,7 @@ enum-told : tie.Need-enum-told
 enum-told c = search needs
 
 end-of-text-requires : tie.Need-end-of-text-requires
-end-of-text-requires c κs = search needs
+end-of-text-requires c κs = tt
 
 returns : tie.Need-returns
 unfolding blank-or-end

@@ -6,7 +6,7 @@ use Rattle.dates.proofs.date.comma.Statement.{statement}
 use Rattle.dates.proofs.date.comma.Tie as tie
 
 spaced-byte-requires : tie.Need-spaced-byte-requires
-spaced-byte-requires c κs = search needs
+spaced-byte-requires c κs = tt
 
 enum-known-next : tie.Need-enum-known-next
 enum-known-next c = search needs
@@ -19,7 +19,7 @@ unfolding comma
 returns c = search dates
 
 multispace1-requires : tie.Need-multispace1-requires
-multispace1-requires c κs = search needs
+multispace1-requires c κs = tt
 
 enum-known-next-2 : tie.Need-enum-known-next-2
 enum-known-next-2 c = search needs

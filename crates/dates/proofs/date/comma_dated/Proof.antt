@@ -1,5 +1,4 @@
 -- `comma_dated` is its definition's chain: what is skipped, a year or none, and the date. Assumes nothing.
-use borrow.Author.Needs.{needs}
 use Rattle.dates.proofs.Chain.{year-behind}
 use Rattle.dates.specs.Date.{comma, dated-behind, ended-year}
 use Rattle.primitive.specs.Text.{lowered}
@@ -7,13 +6,13 @@ use Rattle.dates.proofs.date.comma_dated.Statement.{statement}
 use Rattle.dates.proofs.date.comma_dated.Tie as tie
 
 comma-requires : tie.Need-comma-requires
-comma-requires c κs = search needs
+comma-requires c κs = tt
 
 ended-year-requires : tie.Need-ended-year-requires
-ended-year-requires c κs = search needs
+ended-year-requires c κs = tt
 
 dated-requires : tie.Need-dated-requires
-dated-requires c κs = search needs
+dated-requires c κs = tt
 
 returns : tie.Need-returns
 unfolding dated-behind ended-year

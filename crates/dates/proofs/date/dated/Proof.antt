@@ -11,13 +11,13 @@ enum-known-year : tie.Need-enum-known-year
 enum-known-year c = search needs
 
 with-year-requires : tie.Need-with-year-requires
-with-year-requires c κs = search needs
+with-year-requires c κs = tt
 
 enum-told : tie.Need-enum-told
 enum-told c = search needs
 
 without-year-requires : tie.Need-without-year-requires
-without-year-requires c κs = search needs
+without-year-requires c κs = tt
 
 returns : tie.Need-returns
 unfolding writtenAt dated

@@ -6,7 +6,7 @@ use Rattle.dates.proofs.date.ended_year.Statement.{statement}
 use Rattle.dates.proofs.date.ended_year.Tie as tie
 
 year-str-requires : tie.Need-year-str-requires
-year-str-requires c κs = search needs
+year-str-requires c κs = tt
 
 enum-known-from : tie.Need-enum-known-from
 enum-known-from c = search needs
@@ -19,7 +19,7 @@ unfolding ended
 returns c = search dates
 
 blank-or-end-requires : tie.Need-blank-or-end-requires
-blank-or-end-requires c κs = search needs
+blank-or-end-requires c κs = tt
 
 enum-known-next : tie.Need-enum-known-next
 enum-known-next c = search needs

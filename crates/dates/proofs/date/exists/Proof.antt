@@ -1,11 +1,10 @@
 -- `exists` is its definition's tests. Assumes nothing.
-use borrow.Author.Needs.{needs}
 use Rattle.dates.specs.Date.{exists}
 use Rattle.dates.proofs.date.exists.Statement.{statement}
 use Rattle.dates.proofs.date.exists.Tie as tie
 
 days-in-month-requires : tie.Need-days-in-month-requires
-days-in-month-requires c κs = search needs
+days-in-month-requires c κs = tt
 
 returns : tie.Need-returns
 unfolding exists

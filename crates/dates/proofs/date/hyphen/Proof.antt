@@ -6,7 +6,7 @@ use Rattle.dates.proofs.date.hyphen.Statement.{statement}
 use Rattle.dates.proofs.date.hyphen.Tie as tie
 
 spaced-byte-requires : tie.Need-spaced-byte-requires
-spaced-byte-requires c κs = search needs
+spaced-byte-requires c κs = tt
 
 enum-known-next : tie.Need-enum-known-next
 enum-known-next c = search needs

@@ -1,6 +1,5 @@
 -- `plain_dated` is its definition's chain: what is skipped, a year or none, and the date. Assumes nothing.
 use mathlib.Core.Path.{refl}
-use borrow.Author.Needs.{needs}
 use Rattle.dates.proofs.Chain.{year-behind}
 use Rattle.dates.specs.Date.{dated-behind, ended-year, nothing}
 use Rattle.primitive.specs.Answer.{matched}
@@ -9,10 +8,10 @@ use Rattle.dates.proofs.date.plain_dated.Statement.{statement}
 use Rattle.dates.proofs.date.plain_dated.Tie as tie
 
 ended-year-requires : tie.Need-ended-year-requires
-ended-year-requires c κs = search needs
+ended-year-requires c κs = tt
 
 dated-requires : tie.Need-dated-requires
-dated-requires c κs = search needs
+dated-requires c κs = tt
 
 returns : tie.Need-returns
 unfolding dated-behind ended-year nothing

@@ -21,7 +21,7 @@ year-is c =
     year-moved (slice (a .from) (a .to) t) t (a .to) (a .next) _ _ (sym (ap u32Answer (c .before .year .given .1)) ∙ c .before .before .before .year-from-str .ensures)
 
 year-from-str-requires : tie.Need-year-from-str-requires
-year-from-str-requires c κs = search needs
+year-from-str-requires c κs = tt
 
 enum-known-year : tie.Need-enum-known-year
 enum-known-year c = search needs
@@ -37,7 +37,7 @@ returns c =
     simp (year-none (slice (a .from) (a .to) t) t (a .to) (a .next) (sym (ap u32Answer (c .enum-told .given .1)) ∙ c .before .before .year-from-str .ensures))
 
 exists-requires : tie.Need-exists-requires
-exists-requires c κs = search needs
+exists-requires c κs = tt
 
 returns-2 : tie.Need-returns-2
 unfolding with-year

@@ -1,12 +1,11 @@
 -- `without_year` is its definition's test. Assumes nothing.
 use mathlib.Core.Path.{sym}
-use borrow.Author.Needs.{needs}
 use Rattle.dates.specs.Date.{without-year}
 use Rattle.dates.proofs.date.without_year.Statement.{statement}
 use Rattle.dates.proofs.date.without_year.Tie as tie
 
 exists-requires : tie.Need-exists-requires
-exists-requires c κs = search needs
+exists-requires c κs = tt
 
 returns : tie.Need-returns
 unfolding without-year

@@ -32,7 +32,7 @@ widened-is : (c : tie.After-widen) →
 widened-is c = rw (c .before .digit-count .ensures, parsed (c .before .before) .0) at (c .widen .ensures)
 
 parse-uint-requires : tie.Need-parse-uint-requires
-parse-uint-requires c κs = search needs
+parse-uint-requires c κs = tt
 
 enum-known-year : tie.Need-enum-known-year
 enum-known-year c = search needs
@@ -49,7 +49,7 @@ returns c =
     simp (lt-leb (widenedBy (length w) (decimal w)) 2147485547 (omega (arith, widened-up (length w) (decimal w))))
 
 digit-count-requires : tie.Need-digit-count-requires
-digit-count-requires c κs = search needs
+digit-count-requires c κs = tt
 
 widen-requires : tie.Need-widen-requires
 widen-requires c κs = let p = parsed (c .before) in omega arith

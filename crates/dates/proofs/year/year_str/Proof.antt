@@ -6,10 +6,10 @@ use Rattle.dates.proofs.year.year_str.Statement.{statement}
 use Rattle.dates.proofs.year.year_str.Tie as tie
 
 space-requires : tie.Need-space-requires
-space-requires c κs = search needs
+space-requires c κs = tt
 
 dec-uint-str-requires : tie.Need-dec-uint-str-requires
-dec-uint-str-requires c κs = search needs
+dec-uint-str-requires c κs = tt
 
 enum-known-to : tie.Need-enum-known-to
 enum-known-to c = search needs

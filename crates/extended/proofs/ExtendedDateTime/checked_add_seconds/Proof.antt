@@ -32,7 +32,7 @@ offset-fits : (c : tie.After-struct-told) → SFits w32 (c .before .before .befo
 offset-fits c = search needs
 
 refusal-requires : tie.Need-refusal-requires
-refusal-requires c κs = search needs
+refusal-requires c κs = tt
 
 returns : tie.Need-returns
 unfolding addSeconds
@@ -42,7 +42,7 @@ moment-requires : tie.Need-moment-requires
 moment-requires c κs = ok c
 
 checked-add-requires : tie.Need-checked-add-requires
-checked-add-requires c κs = search needs
+checked-add-requires c κs = tt
 
 enum-known-unix : tie.Need-enum-known-unix
 enum-known-unix c = search needs
@@ -70,7 +70,7 @@ cast-carry : tie.Need-cast-carry
 cast-carry c = search needs
 
 carry-requires : tie.Need-carry-requires
-carry-requires c κs = search needs
+carry-requires c κs = tt
 
 returns-4 : tie.Need-returns-4
 unfolding addSeconds

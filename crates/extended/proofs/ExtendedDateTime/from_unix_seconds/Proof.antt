@@ -60,7 +60,7 @@ unfolding fromUnixSeconds
 returns c = simp (lt-leb _ _ (c .if1 .taken))
 
 offset-refusal-requires : tie.Need-offset-refusal-requires
-offset-refusal-requires c κs = search needs
+offset-refusal-requires c κs = tt
 
 returns-2 : tie.Need-returns-2
 unfolding fromUnixSeconds
@@ -70,7 +70,7 @@ cast-checked-add : tie.Need-cast-checked-add
 cast-checked-add c = rw (toZ-ofZ (c .before .before .before .fits .offset-seconds)) (wide (c .before .before .before))
 
 checked-add-requires : tie.Need-checked-add-requires
-checked-add-requires c κs = search needs
+checked-add-requires c κs = tt
 
 enum-known-local : tie.Need-enum-known-local
 enum-known-local c = search needs
@@ -84,7 +84,7 @@ returns-3 c =
     simp (nanosecond-ok (c .before .before .before .before .before), offset-ok (c .before .before .before), sym (sum-is (c .before .before)), c .enum-told .given .1)
 
 bias-requires : tie.Need-bias-requires
-bias-requires c κs = search needs
+bias-requires c κs = tt
 
 returns-4 : tie.Need-returns-4
 unfolding naturalOf clocked
@@ -96,7 +96,7 @@ returns-4 c =
     sym (past k ∙ ap (clocked (k .before .before .before .before .before .before .before)) (moved-down z (local-fits k) 62167219200 n e))
 
 from-clock-requires : tie.Need-from-clock-requires
-from-clock-requires c κs = search needs
+from-clock-requires c κs = tt
 
 returns-5 : tie.Need-returns-5
 unfolding naturalOf clocked

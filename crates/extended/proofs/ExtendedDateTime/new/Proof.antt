@@ -1,7 +1,6 @@
 -- `ExtendedDateTime::new` meets its contract: the record is made, and tested. Assumes nothing.
 use mathlib.Core.Path.{_≡_, ap}
 use mir.Facts.{toZ-ofZ}
-use borrow.Author.Needs.{needs}
 use Rattle.extended.proofs.Outcomes.{passed, refused-by}
 use Rattle.extended.proofs.Records.{record-proper}
 use Rattle.extended.specs.Extended.{accept, make, test}
@@ -13,10 +12,10 @@ made-is : (c : tie.After-from-parts) → c .from-parts .result ≡ make (c .befo
 made-is c = rw (toZ-ofZ (c .before .fits .offset-seconds)) at (c .from-parts .ensures)
 
 from-parts-requires : tie.Need-from-parts-requires
-from-parts-requires c κs = search needs
+from-parts-requires c κs = tt
 
 refusal-requires : tie.Need-refusal-requires
-refusal-requires c κs = search needs
+refusal-requires c κs = tt
 
 returns : tie.Need-returns
 unfolding accept

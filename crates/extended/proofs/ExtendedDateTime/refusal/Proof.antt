@@ -23,20 +23,20 @@ offset-fits : (c : tie.After-struct-told) → SFits w32 (c .before .before .befo
 offset-fits c = search needs
 
 date-requires : tie.Need-date-requires
-date-requires c κs = search needs
+date-requires c κs = tt
 
 date-refusal-requires : tie.Need-date-refusal-requires
-date-refusal-requires c κs = search needs
+date-refusal-requires c κs = tt
 
 returns : tie.Need-returns
 unfolding test
 returns c = simp (refused-by (testDate (dateOf (c .before .before .before .args .self))) (rw (c .before .before .date .ensures) at (c .before .date-refusal .ensures)) (c .if1 .taken))
 
 time-requires : tie.Need-time-requires
-time-requires c κs = search needs
+time-requires c κs = tt
 
 time-refusal-requires : tie.Need-time-refusal-requires
-time-refusal-requires c κs = search needs
+time-refusal-requires c κs = tt
 
 returns-2 : tie.Need-returns-2
 unfolding test
@@ -48,7 +48,7 @@ returns-2 c =
     )
 
 offset-refusal-requires : tie.Need-offset-refusal-requires
-offset-refusal-requires c κs = search needs
+offset-refusal-requires c κs = tt
 
 returns-3 : tie.Need-returns-3
 unfolding test

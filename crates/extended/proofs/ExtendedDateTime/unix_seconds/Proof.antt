@@ -18,7 +18,7 @@ moment-fits : (c : tie.After-moment) → SFits w64 (c .moment .result)
 moment-fits c = search needs
 
 refusal-requires : tie.Need-refusal-requires
-refusal-requires c κs = search needs
+refusal-requires c κs = tt
 
 returns : tie.Need-returns
 unfolding unixSeconds

@@ -16,7 +16,7 @@ ok : (c : tie.Else1) → test (c .before .before .args .self) ≡ accepted tt
 ok c = passed (record-proper (c .before .before .args .self)) (c .before .refusal .ensures) (c .if1 .left)
 
 refusal-requires : tie.Need-refusal-requires
-refusal-requires c κs = search needs
+refusal-requires c κs = tt
 
 returns : tie.Need-returns
 unfolding weekdayMonday0

@@ -18,17 +18,17 @@ offset-fits : (c : tie.After-struct-told) → SFits w32 (c .before .before .befo
 offset-fits c = search needs
 
 refusal-requires : tie.Need-refusal-requires
-refusal-requires c κs = search needs
+refusal-requires c κs = tt
 
 returns : tie.Need-returns
 unfolding withDate
 returns c = simp (refused-by (test (c .before .before .args .self)) (c .before .refusal .ensures) (c .if1 .taken))
 
 time-requires : tie.Need-time-requires
-time-requires c κs = search needs
+time-requires c κs = tt
 
 new-requires : tie.Need-new-requires
-new-requires c κs = search needs
+new-requires c κs = tt
 
 returns-2 : tie.Need-returns-2
 unfolding withDate

@@ -1,7 +1,6 @@
 -- `ExtendedDateTime::with_offset` meets its contract: the record lent in, then the new one. Assumes nothing.
 use mathlib.Core.Path.{_≡_}
 use mir.Facts.{toZ-ofZ}
-use borrow.Author.Needs.{needs}
 use Rattle.extended.proofs.Outcomes.{passed, refused-by}
 use Rattle.extended.proofs.Records.{record-proper}
 use Rattle.extended.specs.Extended.{test, withOffset}
@@ -13,20 +12,20 @@ ok : (c : tie.Else1) → test (c .before .before .args .self) ≡ accepted tt
 ok c = passed (record-proper (c .before .before .args .self)) (c .before .refusal .ensures) (c .if1 .left)
 
 refusal-requires : tie.Need-refusal-requires
-refusal-requires c κs = search needs
+refusal-requires c κs = tt
 
 returns : tie.Need-returns
 unfolding withOffset
 returns c = simp (refused-by (test (c .before .before .args .self)) (c .before .refusal .ensures) (c .if1 .taken))
 
 date-requires : tie.Need-date-requires
-date-requires c κs = search needs
+date-requires c κs = tt
 
 time-requires : tie.Need-time-requires
-time-requires c κs = search needs
+time-requires c κs = tt
 
 new-requires : tie.Need-new-requires
-new-requires c κs = search needs
+new-requires c κs = tt
 
 returns-2 : tie.Need-returns-2
 unfolding withOffset

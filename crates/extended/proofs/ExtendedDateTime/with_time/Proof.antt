@@ -18,17 +18,17 @@ offset-fits : (c : tie.After-struct-told) → SFits w32 (c .before .before .befo
 offset-fits c = search needs
 
 refusal-requires : tie.Need-refusal-requires
-refusal-requires c κs = search needs
+refusal-requires c κs = tt
 
 returns : tie.Need-returns
 unfolding withTime
 returns c = simp (refused-by (test (c .before .before .args .self)) (c .before .refusal .ensures) (c .if1 .taken))
 
 date-requires : tie.Need-date-requires
-date-requires c κs = search needs
+date-requires c κs = tt
 
 new-requires : tie.Need-new-requires
-new-requires c κs = search needs
+new-requires c κs = tt
 
 returns-2 : tie.Need-returns-2
 unfolding withTime

@@ -6,7 +6,7 @@ use Rattle.items.proofs.combined.combined_time.Statement.{statement}
 use Rattle.items.proofs.combined.combined_time.Tie as tie
 
 iso-alone-requires : tie.Need-iso-alone-requires
-iso-alone-requires c κs = search needs
+iso-alone-requires c κs = tt
 
 enum-known-time : tie.Need-enum-known-time
 enum-known-time c = search needs
@@ -15,7 +15,7 @@ enum-told : tie.Need-enum-told
 enum-told c = search needs
 
 parse-requires : tie.Need-parse-requires
-parse-requires c κs = search needs
+parse-requires c κs = tt
 
 enum-told-2 : tie.Need-enum-told-2
 enum-told-2 c = search needs

@@ -6,13 +6,13 @@ use Rattle.items.proofs.combined.iso_alone.Statement.{statement}
 use Rattle.items.proofs.combined.iso_alone.Tie as tie
 
 iso-requires : tie.Need-iso-requires
-iso-requires c κs = search needs
+iso-requires c κs = tt
 
 enum-known-time : tie.Need-enum-known-time
 enum-known-time c = search needs
 
 unless-meridiem-requires : tie.Need-unless-meridiem-requires
-unless-meridiem-requires c κs = search needs
+unless-meridiem-requires c κs = tt
 
 enum-told : tie.Need-enum-told
 enum-told c = search needs

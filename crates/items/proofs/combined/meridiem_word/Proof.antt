@@ -10,7 +10,7 @@ slice-aggregate-tag : tie.Need-slice-aggregate-tag
 slice-aggregate-tag c = search needs
 
 tag-requires : tie.Need-tag-requires
-tag-requires c κs = search needs
+tag-requires c κs = tt
 
 enum-known-next : tie.Need-enum-known-next
 enum-known-next c = search needs
@@ -26,7 +26,7 @@ slice-aggregate-tag-2 : tie.Need-slice-aggregate-tag-2
 slice-aggregate-tag-2 c = search needs
 
 tag-requires-2 : tie.Need-tag-requires-2
-tag-requires-2 c κs = search needs
+tag-requires-2 c κs = tt
 
 enum-known-next-2 : tie.Need-enum-known-next-2
 enum-known-next-2 c = search needs
@@ -42,7 +42,7 @@ slice-aggregate-tag-3 : tie.Need-slice-aggregate-tag-3
 slice-aggregate-tag-3 c = search needs
 
 tag-requires-3 : tie.Need-tag-requires-3
-tag-requires-3 c κs = search needs
+tag-requires-3 c κs = tt
 
 enum-known-next-3 : tie.Need-enum-known-next-3
 enum-known-next-3 c = search needs
@@ -58,7 +58,7 @@ slice-aggregate-tag-4 : tie.Need-slice-aggregate-tag-4
 slice-aggregate-tag-4 c = search needs
 
 tag-requires-4 : tie.Need-tag-requires-4
-tag-requires-4 c κs = search needs
+tag-requires-4 c κs = tt
 
 returns-4 : tie.Need-returns-4
 unfolding meridiem-word bytes

@@ -6,7 +6,7 @@ use Rattle.items.proofs.combined.parse_time_after_date.Statement.{state
 use Rattle.items.proofs.combined.parse_time_after_date.Tie as tie
 
 separator-requires : tie.Need-separator-requires
-separator-requires c κs = search needs
+separator-requires c κs = tt
 
 enum-known-at : tie.Need-enum-known-at
 enum-known-at c = search needs
@@ -19,7 +19,7 @@ unfolding parse-time-after-date
 returns c = search items
 
 combined-time-requires : tie.Need-combined-time-requires
-combined-time-requires c κs = search needs
+combined-time-requires c κs = tt
 
 enum-known-time : tie.Need-enum-known-time
 enum-known-time c = search needs

@@ -6,7 +6,7 @@ use Rattle.items.proofs.combined.separator.Statement.{statement}
 use Rattle.items.proofs.combined.separator.Tie as tie
 
 spaced-byte-requires : tie.Need-spaced-byte-requires
-spaced-byte-requires c κs = search needs
+spaced-byte-requires c κs = tt
 
 enum-known-next : tie.Need-enum-known-next
 enum-known-next c = search needs
@@ -19,7 +19,7 @@ enum-told : tie.Need-enum-told
 enum-told c = search needs
 
 byte-requires : tie.Need-byte-requires
-byte-requires c κs = search needs
+byte-requires c κs = tt
 
 enum-known-next-2 : tie.Need-enum-known-next-2
 enum-known-next-2 c = search needs
@@ -32,7 +32,7 @@ unfolding separator
 returns-2 c = search items
 
 space-requires : tie.Need-space-requires
-space-requires c κs = search needs
+space-requires c κs = tt
 
 returns-3 : tie.Need-returns-3
 unfolding separator

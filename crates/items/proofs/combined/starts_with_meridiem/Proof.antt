@@ -1,15 +1,14 @@
 -- `starts_with_meridiem` is its definition's chain. Assumes nothing.
-use borrow.Author.Needs.{needs}
 use Rattle.items.specs.Combined.{starts-with-meridiem}
 use Rattle.primitive.specs.Primitive.{multispace0}
 use Rattle.items.proofs.combined.starts_with_meridiem.Statement.{statement}
 use Rattle.items.proofs.combined.starts_with_meridiem.Tie as tie
 
 multispace0-requires : tie.Need-multispace0-requires
-multispace0-requires c κs = search needs
+multispace0-requires c κs = tt
 
 meridiem-word-requires : tie.Need-meridiem-word-requires
-meridiem-word-requires c κs = search needs
+meridiem-word-requires c κs = tt
 
 returns : tie.Need-returns
 unfolding starts-with-meridiem multispace0

@@ -6,7 +6,7 @@ use Rattle.items.proofs.combined.unless_meridiem.Statement.{statement}
 use Rattle.items.proofs.combined.unless_meridiem.Tie as tie
 
 starts-with-meridiem-requires : tie.Need-starts-with-meridiem-requires
-starts-with-meridiem-requires c κs = search needs
+starts-with-meridiem-requires c κs = tt
 
 enum-told : tie.Need-enum-told
 enum-told c = search needs

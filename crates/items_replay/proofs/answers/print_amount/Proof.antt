@@ -9,7 +9,7 @@ cast-print-signed : tie.Need-cast-print-signed
 cast-print-signed c = rw (toZ-ofZ (c .before .fits .n)) (record { sfits = omega (arith, c .before .fits .n .sfits) })
 
 print-signed-requires : tie.Need-print-signed-requires
-print-signed-requires c κs = search needs
+print-signed-requires c κs = tt
 
 returns : tie.Need-returns
 returns c = search needs

@@ -14,10 +14,10 @@ loop-holds : tie.Need-loop-holds Inv-loop μ-loop
 loop-holds c = search needs
 
 space-requires : tie.Need-space-requires Inv-loop μ-loop
-space-requires c κs = search needs
+space-requires c κs = tt
 
 parse-item-requires : tie.Need-parse-item-requires Inv-loop μ-loop
-parse-item-requires c κs = search needs
+parse-item-requires c κs = tt
 
 enum-known-read : tie.Need-enum-known-read Inv-loop μ-loop
 enum-known-read c = search needs
@@ -26,10 +26,10 @@ returns : tie.Need-returns Inv-loop μ-loop
 returns c = search needs
 
 print-separator-requires : tie.Need-print-separator-requires Inv-loop μ-loop
-print-separator-requires c κs = search needs
+print-separator-requires c κs = tt
 
 print-item-requires : tie.Need-print-item-requires Inv-loop μ-loop
-print-item-requires c κs = search needs
+print-item-requires c κs = tt
 
 add-count : tie.Need-add-count Inv-loop μ-loop
 add-count c = search needs

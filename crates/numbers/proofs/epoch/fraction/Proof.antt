@@ -6,7 +6,7 @@ use Rattle.numbers.proofs.epoch.fraction.Statement.{statement}
 use Rattle.numbers.proofs.epoch.fraction.Tie as tie
 
 point-or-comma-requires : tie.Need-point-or-comma-requires
-point-or-comma-requires c κs = search needs
+point-or-comma-requires c κs = tt
 
 enum-known-start : tie.Need-enum-known-start
 enum-known-start c = search needs
@@ -19,7 +19,7 @@ unfolding fraction
 returns c = search fractions
 
 dec-uint-str-requires : tie.Need-dec-uint-str-requires
-dec-uint-str-requires c κs = search needs
+dec-uint-str-requires c κs = tt
 
 enum-known-end : tie.Need-enum-known-end
 enum-known-end c = search needs

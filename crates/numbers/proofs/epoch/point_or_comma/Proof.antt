@@ -6,7 +6,7 @@ use Rattle.numbers.proofs.epoch.point_or_comma.Statement.{statement}
 use Rattle.numbers.proofs.epoch.point_or_comma.Tie as tie
 
 byte-requires : tie.Need-byte-requires
-byte-requires c κs = search needs
+byte-requires c κs = tt
 
 enum-known-next : tie.Need-enum-known-next
 enum-known-next c = search needs
@@ -15,7 +15,7 @@ enum-told : tie.Need-enum-told
 enum-told c = search needs
 
 byte-requires-2 : tie.Need-byte-requires-2
-byte-requires-2 c κs = search needs
+byte-requires-2 c κs = tt
 
 returns : tie.Need-returns
 unfolding point-or-comma

@@ -6,7 +6,7 @@ use Rattle.numbers.proofs.epoch.sec_and_nsec.Statement.{statement}
 use Rattle.numbers.proofs.epoch.sec_and_nsec.Tie as tie
 
 dec-u64-requires : tie.Need-dec-u64-requires
-dec-u64-requires c κs = search needs
+dec-u64-requires c κs = tt
 
 enum-known-sec : tie.Need-enum-known-sec
 enum-known-sec c = search needs
@@ -19,7 +19,7 @@ unfolding sec-and-nsec
 returns c = search chain
 
 fraction-requires : tie.Need-fraction-requires
-fraction-requires c κs = search needs
+fraction-requires c κs = tt
 
 enum-known-nsec : tie.Need-enum-known-nsec
 enum-known-nsec c = search needs

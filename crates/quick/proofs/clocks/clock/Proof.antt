@@ -46,7 +46,7 @@ returns-6 : tie.Need-returns-6
 returns-6 c = clock-read _ _ _ _ (omega arith) (c .before .before .before .before .before .if3 .left) (c .before .before .before .before .two .ensures .1 (omega arith)) (c .before .before .two2 .ensures .1 (omega arith)) (omega arith) (omega arith) (minutes-end _ _ (rw length-lowered (c .if6 .taken)))
 
 second-requires : tie.Need-second-requires
-second-requires c κs = search needs
+second-requires c κs = tt
 
 returns-7 : tie.Need-returns-7
 returns-7 c = clock-answer _ _ _ _ (omega arith) (c .before .before .before .before .before .before .if3 .left) (c .before .before .before .before .before .two .ensures .1 (omega arith)) (c .before .before .before .two2 .ensures .1 (omega arith)) (omega arith) (omega arith) (c .second .result) (c .second .ensures)

@@ -8,7 +8,7 @@ use Rattle.quick.proofs.clocks.half_day.Statement.{statement}
 use Rattle.quick.proofs.clocks.half_day.Tie as tie
 
 short-requires : tie.Need-short-requires
-short-requires c κs = search needs
+short-requires c κs = tt
 
 enum-known-hour : tie.Need-enum-known-hour
 enum-known-hour c = search needs

@@ -37,7 +37,7 @@ returns-5 : tie.Need-returns-5
 returns-5 c = (refl, (refl, second-ends _ _ _ (omega arith) (c .before .before .before .if3 .left) (c .before .before .two .ensures .1 (omega arith)) (omega arith) (c .if5 .taken)))
 
 fraction-and-zone-requires : tie.Need-fraction-and-zone-requires
-fraction-and-zone-requires c κs = search needs
+fraction-and-zone-requires c κs = tt
 
 returns-6 : tie.Need-returns-6
 returns-6 c = second-answer _ _ _ (omega arith) (c .before .before .before .before .if3 .left) (c .before .before .before .two .ensures .1 (omega arith)) (omega arith) _ _ (c .fraction-and-zone .result) (c .fraction-and-zone .ensures)

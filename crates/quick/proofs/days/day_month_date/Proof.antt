@@ -10,7 +10,7 @@ month-there : (c : tie.After-month) → Named (lowered (c .before .before .befor
 month-there c = rw (c .month .given .1) at (c .before .before .month-name .ensures)
 
 month-name-requires : tie.Need-month-name-requires
-month-name-requires c κs = search needs
+month-name-requires c κs = tt
 
 enum-known-month : tie.Need-enum-known-month
 enum-known-month c = search needs
@@ -28,7 +28,7 @@ cast-year : tie.Need-cast-year
 cast-year c = search needs
 
 year-requires : tie.Need-year-requires
-year-requires c κs = search needs
+year-requires c κs = tt
 
 returns-2 : tie.Need-returns-2
 returns-2 c = month-year-found _ _ (month-there (c .before .before)) (c .year .result) (c .year .ensures)

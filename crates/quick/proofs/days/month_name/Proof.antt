@@ -5,7 +5,7 @@ use Rattle.quick.proofs.days.month_name.Statement.{statement}
 use Rattle.quick.proofs.days.month_name.Tie as tie
 
 alpha1-requires : tie.Need-alpha1-requires
-alpha1-requires c κs = search needs
+alpha1-requires c κs = tt
 
 enum-known-end : tie.Need-enum-known-end
 enum-known-end c = search needs
@@ -26,7 +26,7 @@ returns-3 : tie.Need-returns-3
 returns-3 c = search needs
 
 month-named-requires : tie.Need-month-named-requires
-month-named-requires c κs = search needs
+month-named-requires c κs = tt
 
 returns-4 : tie.Need-returns-4
 returns-4 c = name-found _ _ _ (rw (c .before .before .before .before .before .end .given .1) at (c .before .before .before .before .before .before .before .alpha1 .ensures)) (c .before .before .before .if1 .left) (c .before .if2 .left) (c .month-named .result) (c .month-named .ensures)

@@ -15,7 +15,7 @@ month-there : (c : tie.After-month) → Named (lowered (c .before .before .befor
 month-there c = rw (c .month .given .1) at (c .before .before .month-name .ensures)
 
 month-name-requires : tie.Need-month-name-requires
-month-name-requires c κs = search needs
+month-name-requires c κs = tt
 
 enum-known-month : tie.Need-enum-known-month
 enum-known-month c = search needs
@@ -30,7 +30,7 @@ add-short : tie.Need-add-short
 add-short c = let h = name-within _ (month-there (c .before)) in search needs
 
 short-requires : tie.Need-short-requires
-short-requires c κs = search needs
+short-requires c κs = tt
 
 enum-known-day : tie.Need-enum-known-day
 enum-known-day c = search needs
@@ -66,7 +66,7 @@ cast-year : tie.Need-cast-year
 cast-year c = search needs
 
 year-requires : tie.Need-year-requires
-year-requires c κs = search needs
+year-requires c κs = tt
 
 returns-6 : tie.Need-returns-6
 returns-6 c = name-day-found _ (month-there (c .before .before .before .before .before .before .before .before .before .before .before)) (day-there (c .before .before .before .before .before .before .before)) (c .before .before .before .before .if1 .left) (c .before .before .before .if2 .left) (c .before .if3 .left) (c .year .result) (c .year .ensures)

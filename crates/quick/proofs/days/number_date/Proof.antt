@@ -10,7 +10,7 @@ number-there : (c : tie.After-first) → Short (lowered (c .before .before .befo
 number-there c = rw (c .first .given .1) at (c .before .before .short .ensures)
 
 short-requires : tie.Need-short-requires
-short-requires c κs = search needs
+short-requires c κs = tt
 
 enum-known-first : tie.Need-enum-known-first
 enum-known-first c = search needs
@@ -28,7 +28,7 @@ add-us-date : tie.Need-add-us-date
 add-us-date c = let h = short-within _ (number-there (c .before .before .before)) in search needs
 
 us-date-requires : tie.Need-us-date-requires
-us-date-requires c κs = search needs
+us-date-requires c κs = tt
 
 returns-2 : tie.Need-returns-2
 returns-2 c = us-found _ (number-there (c .before .before .before .before)) (c .before .if1 .taken) (c .us-date .result) (c .us-date .ensures)
@@ -43,7 +43,7 @@ add-day-month-date : tie.Need-add-day-month-date
 add-day-month-date c = let h = short-within _ (number-there (c .before .before .before .before .before)) in search needs
 
 day-month-date-requires : tie.Need-day-month-date-requires
-day-month-date-requires c κs = search needs
+day-month-date-requires c κs = tt
 
 returns-4 : tie.Need-returns-4
 returns-4 c = day-month-found _ (number-there (c .before .before .before .before .before .before)) (c .before .if2 .left) (c .day-month-date .result) (c .day-month-date .ensures)

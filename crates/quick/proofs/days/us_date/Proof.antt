@@ -10,7 +10,7 @@ day-there : (c : tie.After-day) → Short (lowered (c .before .before .before .b
 day-there c = rw (c .day .given .1) at (c .before .before .short .ensures)
 
 short-requires : tie.Need-short-requires
-short-requires c κs = search needs
+short-requires c κs = tt
 
 enum-known-day : tie.Need-enum-known-day
 enum-known-day c = search needs
@@ -31,7 +31,7 @@ add-year : tie.Need-add-year
 add-year c = let h = short-within _ (day-there (c .before .before .before)) in search needs
 
 year-requires : tie.Need-year-requires
-year-requires c κs = search needs
+year-requires c κs = tt
 
 returns-3 : tie.Need-returns-3
 returns-3 c = day-year-found _ _ (day-there (c .before .before .before .before)) (c .before .if1 .left) (c .year .result) (c .year .ensures)

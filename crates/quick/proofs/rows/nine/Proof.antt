@@ -26,7 +26,7 @@ shared-slice-read-value : tie.Need-shared-slice-read-value
 shared-slice-read-value c = search needs
 
 value-requires : tie.Need-value-requires
-value-requires c κs = search needs
+value-requires c κs = tt
 
 returns-3 : tie.Need-returns-3
 returns-3 c = search rows

@@ -17,7 +17,7 @@ shared-slice-read-value : tie.Need-shared-slice-read-value
 shared-slice-read-value c = search needs
 
 value-requires : tie.Need-value-requires
-value-requires c κs = search needs
+value-requires c κs = tt
 
 returns-3 : tie.Need-returns-3
 returns-3 c = search needs
@@ -29,7 +29,7 @@ shared-slice-read-value-2 : tie.Need-shared-slice-read-value-2
 shared-slice-read-value-2 c = search needs
 
 value-requires-2 : tie.Need-value-requires-2
-value-requires-2 c κs = search needs
+value-requires-2 c κs = tt
 
 add-t12 : tie.Need-add-t12
 add-t12 c = search needs
@@ -44,7 +44,7 @@ shared-slice-read-value-3 : tie.Need-shared-slice-read-value-3
 shared-slice-read-value-3 c = search needs
 
 value-requires-3 : tie.Need-value-requires-3
-value-requires-3 c κs = search needs
+value-requires-3 c κs = tt
 
 mul-t14 : tie.Need-mul-t14
 mul-t14 c = search needs

@@ -8,7 +8,7 @@ shared-slice-read-value : tie.Need-shared-slice-read-value
 shared-slice-read-value c = search needs
 
 value-requires : tie.Need-value-requires
-value-requires c κs = search needs
+value-requires c κs = tt
 
 returns : tie.Need-returns
 returns c = search rows
@@ -20,7 +20,7 @@ shared-slice-read-value-2 : tie.Need-shared-slice-read-value-2
 shared-slice-read-value-2 c = search needs
 
 value-requires-2 : tie.Need-value-requires-2
-value-requires-2 c κs = search needs
+value-requires-2 c κs = tt
 
 returns-2 : tie.Need-returns-2
 returns-2 c = search rows

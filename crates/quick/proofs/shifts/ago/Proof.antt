@@ -18,7 +18,7 @@ slice-aggregate-tag : tie.Need-slice-aggregate-tag
 slice-aggregate-tag c = search needs
 
 tag-requires : tie.Need-tag-requires
-tag-requires c κs = search needs
+tag-requires c κs = tt
 
 enum-known-end : tie.Need-enum-known-end
 enum-known-end c = search needs

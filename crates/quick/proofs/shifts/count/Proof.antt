@@ -24,7 +24,7 @@ add-unit-at : tie.Need-add-unit-at
 add-unit-at c = search needs
 
 unit-at-requires : tie.Need-unit-at-requires
-unit-at-requires c κs = search needs
+unit-at-requires c κs = tt
 
 enum-known-unit : tie.Need-enum-known-unit
 enum-known-unit c = search needs
@@ -36,7 +36,7 @@ returns-4 : tie.Need-returns-4
 returns-4 c = search needs
 
 behind-plural-requires : tie.Need-behind-plural-requires
-behind-plural-requires c κs = search needs
+behind-plural-requires c κs = tt
 
 amount-requires : tie.Need-amount-requires
 amount-requires c κs = search needs

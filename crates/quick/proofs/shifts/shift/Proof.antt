@@ -13,7 +13,7 @@ behind-sign-requires : tie.Need-behind-sign-requires
 behind-sign-requires c κs = search needs
 
 dec-u32-requires : tie.Need-dec-u32-requires
-dec-u32-requires c κs = search needs
+dec-u32-requires c κs = tt
 
 enum-known-n : tie.Need-enum-known-n
 enum-known-n c = search needs
@@ -34,7 +34,7 @@ shared-slice-read-count : tie.Need-shared-slice-read-count
 shared-slice-read-count c = search needs
 
 count-requires : tie.Need-count-requires
-count-requires c κs = search needs
+count-requires c κs = tt
 
 returns-4 : tie.Need-returns-4
 returns-4 c = shift-answer _ _ _ _ (omega arith) _ (c .before .before .before .before .before .before .before .behind-sign .ensures) (number-there _ _ _ _ _ _ (omega arith) (c .before .before .before .before .before .before .before .behind-sign .ensures) (c .before .before .before .before .before .before .dec-u32 .ensures) (c .before .before .before .before .n .given .1)) (λ z. ⊎-elim (λ w. omega arith) (λ w. omega arith) (c .before .before .if2 .came)) (c .count .result) (c .count .ensures)

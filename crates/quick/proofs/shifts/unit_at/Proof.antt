@@ -10,7 +10,7 @@ slice-aggregate-tag : tie.Need-slice-aggregate-tag
 slice-aggregate-tag c = search needs
 
 tag-requires : tie.Need-tag-requires
-tag-requires c κs = search needs
+tag-requires c κs = tt
 
 enum-known-end : tie.Need-enum-known-end
 enum-known-end c = search needs
@@ -26,7 +26,7 @@ slice-aggregate-tag-2 : tie.Need-slice-aggregate-tag-2
 slice-aggregate-tag-2 c = search needs
 
 tag-requires-2 : tie.Need-tag-requires-2
-tag-requires-2 c κs = search needs
+tag-requires-2 c κs = tt
 
 enum-known-end-2 : tie.Need-enum-known-end-2
 enum-known-end-2 c = search needs
@@ -42,7 +42,7 @@ slice-aggregate-tag-3 : tie.Need-slice-aggregate-tag-3
 slice-aggregate-tag-3 c = search needs
 
 tag-requires-3 : tie.Need-tag-requires-3
-tag-requires-3 c κs = search needs
+tag-requires-3 c κs = tt
 
 enum-known-end-3 : tie.Need-enum-known-end-3
 enum-known-end-3 c = search needs
@@ -58,7 +58,7 @@ slice-aggregate-tag-4 : tie.Need-slice-aggregate-tag-4
 slice-aggregate-tag-4 c = search needs
 
 tag-requires-4 : tie.Need-tag-requires-4
-tag-requires-4 c κs = search needs
+tag-requires-4 c κs = tt
 
 enum-known-end-4 : tie.Need-enum-known-end-4
 enum-known-end-4 c = search needs
@@ -74,7 +74,7 @@ slice-aggregate-tag-5 : tie.Need-slice-aggregate-tag-5
 slice-aggregate-tag-5 c = search needs
 
 tag-requires-5 : tie.Need-tag-requires-5
-tag-requires-5 c κs = search needs
+tag-requires-5 c κs = tt
 
 enum-known-end-5 : tie.Need-enum-known-end-5
 enum-known-end-5 c = search needs
@@ -90,7 +90,7 @@ slice-aggregate-tag-6 : tie.Need-slice-aggregate-tag-6
 slice-aggregate-tag-6 c = search needs
 
 tag-requires-6 : tie.Need-tag-requires-6
-tag-requires-6 c κs = search needs
+tag-requires-6 c κs = tt
 
 enum-known-end-6 : tie.Need-enum-known-end-6
 enum-known-end-6 c = search needs

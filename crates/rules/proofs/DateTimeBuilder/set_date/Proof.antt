@@ -1,12 +1,11 @@
 -- `set_date` is its definition. Assumes nothing.
-use borrow.Author.Needs.{needs}
 use Rattle.rules.proofs.DateTimeBuilder.set_date.Statement.{statement}
 use Rattle.rules.proofs.DateTimeBuilder.set_date.Tie as tie
 use Rattle.rules.proofs.Cases.{cases}
 use Rattle.rules.specs.Rules.{setDate}
 
 date-given-requires : tie.Need-date-given-requires
-date-given-requires c κs = search needs
+date-given-requires c κs = tt
 
 returns : tie.Need-returns
 unfolding setDate

@@ -6,13 +6,13 @@ use Rattle.rules.proofs.Cases.{cases}
 use Rattle.rules.specs.Rules.{setDateTime}
 
 set-date-requires : tie.Need-set-date-requires
-set-date-requires c κs = search needs
+set-date-requires c κs = tt
 
 enum-known-next : tie.Need-enum-known-next
 enum-known-next c = search needs
 
 set-time-requires : tie.Need-set-time-requires
-set-time-requires c κs = search needs
+set-time-requires c κs = tt
 
 enum-known-number : tie.Need-enum-known-number
 enum-known-number c = search needs

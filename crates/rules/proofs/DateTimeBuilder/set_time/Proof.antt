@@ -1,19 +1,18 @@
 -- `set_time` is its definition. Assumes nothing.
-use borrow.Author.Needs.{needs}
 use Rattle.rules.proofs.DateTimeBuilder.set_time.Statement.{statement}
 use Rattle.rules.proofs.DateTimeBuilder.set_time.Tie as tie
 use Rattle.rules.proofs.Cases.{cases}
 use Rattle.rules.specs.Rules.{setTime}
 
 time-given-requires : tie.Need-time-given-requires
-time-given-requires c κs = search needs
+time-given-requires c κs = tt
 
 returns : tie.Need-returns
 unfolding setTime
 returns c = search cases
 
 rival-requires : tie.Need-rival-requires
-rival-requires c κs = search needs
+rival-requires c κs = tt
 
 returns-2 : tie.Need-returns-2
 unfolding setTime

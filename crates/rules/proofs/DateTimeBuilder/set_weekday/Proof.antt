@@ -1,12 +1,11 @@
 -- `set_weekday` is its definition. Assumes nothing.
-use borrow.Author.Needs.{needs}
 use Rattle.rules.proofs.DateTimeBuilder.set_weekday.Statement.{statement}
 use Rattle.rules.proofs.DateTimeBuilder.set_weekday.Tie as tie
 use Rattle.rules.proofs.Cases.{cases}
 use Rattle.rules.specs.Rules.{setWeekday}
 
 weekday-given-requires : tie.Need-weekday-given-requires
-weekday-given-requires c κs = search needs
+weekday-given-requires c κs = tt
 
 returns : tie.Need-returns
 unfolding setWeekday

@@ -1,12 +1,11 @@
 -- `set_zone` is its definition. Assumes nothing.
-use borrow.Author.Needs.{needs}
 use Rattle.rules.proofs.DateTimeBuilder.set_zone.Statement.{statement}
 use Rattle.rules.proofs.DateTimeBuilder.set_zone.Tie as tie
 use Rattle.rules.proofs.Cases.{cases}
 use Rattle.rules.specs.Rules.{setZone}
 
 zone-taken-requires : tie.Need-zone-taken-requires
-zone-taken-requires c κs = search needs
+zone-taken-requires c κs = tt
 
 returns : tie.Need-returns
 unfolding setZone

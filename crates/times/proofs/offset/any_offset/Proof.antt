@@ -6,7 +6,7 @@ use Rattle.times.proofs.offset.any_offset.Statement.{statement}
 use Rattle.times.proofs.offset.any_offset.Tie as tie
 
 timezone-offset-colon-requires : tie.Need-timezone-offset-colon-requires
-timezone-offset-colon-requires c κs = search needs
+timezone-offset-colon-requires c κs = tt
 
 enum-known-v : tie.Need-enum-known-v
 enum-known-v c = search needs
@@ -15,7 +15,7 @@ enum-told : tie.Need-enum-told
 enum-told c = search needs
 
 timezone-offset-colonless-requires : tie.Need-timezone-offset-colonless-requires
-timezone-offset-colonless-requires c κs = search needs
+timezone-offset-colonless-requires c κs = tt
 
 enum-told-2 : tie.Need-enum-told-2
 enum-told-2 c = search needs

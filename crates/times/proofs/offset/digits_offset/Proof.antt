@@ -1,17 +1,16 @@
 -- `digits_offset` is its definition, by the number of digits. Assumes nothing.
 use Rattle.times.proofs.Offsets.{offsets}
-use borrow.Author.Needs.{needs}
 use Rattle.times.proofs.offset.digits_offset.Statement.{statement}
 use Rattle.times.proofs.offset.digits_offset.Tie as tie
 
 offset-of-requires : tie.Need-offset-of-requires
-offset-of-requires c κs = search needs
+offset-of-requires c κs = tt
 
 returns : tie.Need-returns
 returns c = search offsets
 
 offset-of-requires-2 : tie.Need-offset-of-requires-2
-offset-of-requires-2 c κs = search needs
+offset-of-requires-2 c κs = tt
 
 returns-2 : tie.Need-returns-2
 returns-2 c = search offsets

@@ -3,12 +3,11 @@ use native.Mathlib.Omega.{arith}
 use mathlib.Core.Path.{sym, _∙_}
 use Rattle.times.proofs.Offsets.{hours-in-range, minutes-in-range}
 use Rattle.times.proofs.Offsets.{offsets}
-use borrow.Author.Needs.{needs}
 use Rattle.times.proofs.offset.offset_of.Statement.{statement}
 use Rattle.times.proofs.offset.offset_of.Tie as tie
 
 in-range-requires : tie.Need-in-range-requires
-in-range-requires c κs = search needs
+in-range-requires c κs = tt
 
 cast-t7 : tie.Need-cast-t7
 cast-t7 c =

@@ -6,7 +6,7 @@ use Rattle.times.proofs.offset.signed_fraction.Statement.{statement}
 use Rattle.times.proofs.offset.signed_fraction.Tie as tie
 
 plus-or-minus-requires : tie.Need-plus-or-minus-requires
-plus-or-minus-requires c κs = search needs
+plus-or-minus-requires c κs = tt
 
 enum-known-at : tie.Need-enum-known-at
 enum-known-at c = search needs
@@ -19,10 +19,10 @@ unfolding signed-fraction
 returns c = search offsets
 
 space-requires : tie.Need-space-requires
-space-requires c κs = search needs
+space-requires c κs = tt
 
 dec-uint-str-requires : tie.Need-dec-uint-str-requires
-dec-uint-str-requires c κs = search needs
+dec-uint-str-requires c κs = tt
 
 enum-known-at-2 : tie.Need-enum-known-at-2
 enum-known-at-2 c = search needs
@@ -35,7 +35,7 @@ unfolding signed-fraction
 returns-2 c = search offsets
 
 fraction-requires : tie.Need-fraction-requires
-fraction-requires c κs = search needs
+fraction-requires c κs = tt
 
 enum-known-nsec : tie.Need-enum-known-nsec
 enum-known-nsec c = search needs

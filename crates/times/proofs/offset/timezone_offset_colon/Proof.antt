@@ -6,7 +6,7 @@ use Rattle.times.proofs.offset.timezone_offset_colon.Statement.{stateme
 use Rattle.times.proofs.offset.timezone_offset_colon.Tie as tie
 
 plus-or-minus-requires : tie.Need-plus-or-minus-requires
-plus-or-minus-requires c κs = search needs
+plus-or-minus-requires c κs = tt
 
 enum-known-negative : tie.Need-enum-known-negative
 enum-known-negative c = search needs
@@ -19,7 +19,7 @@ unfolding timezone-offset-colon
 returns c = search offsets
 
 spaced-u8-requires : tie.Need-spaced-u8-requires
-spaced-u8-requires c κs = search needs
+spaced-u8-requires c κs = tt
 
 enum-known-hours : tie.Need-enum-known-hours
 enum-known-hours c = search needs
@@ -32,10 +32,10 @@ unfolding timezone-offset-colon
 returns-2 c = search offsets
 
 space-requires : tie.Need-space-requires
-space-requires c κs = search needs
+space-requires c κs = tt
 
 colon-requires : tie.Need-colon-requires
-colon-requires c κs = search needs
+colon-requires c κs = tt
 
 enum-known-at : tie.Need-enum-known-at
 enum-known-at c = search needs
@@ -48,7 +48,7 @@ unfolding timezone-offset-colon
 returns-3 c = search offsets
 
 spaced-u8-requires-2 : tie.Need-spaced-u8-requires-2
-spaced-u8-requires-2 c κs = search needs
+spaced-u8-requires-2 c κs = tt
 
 enum-known-minutes : tie.Need-enum-known-minutes
 enum-known-minutes c = search needs
@@ -67,7 +67,7 @@ cast-offset-of-2 : tie.Need-cast-offset-of-2
 cast-offset-of-2 c = search needs
 
 offset-of-requires : tie.Need-offset-of-requires
-offset-of-requires c κs = search needs
+offset-of-requires c κs = tt
 
 returns-5 : tie.Need-returns-5
 unfolding timezone-offset-colon

@@ -6,7 +6,7 @@ use Rattle.times.proofs.offset.timezone_offset_colonless.Statement.{sta
 use Rattle.times.proofs.offset.timezone_offset_colonless.Tie as tie
 
 plus-or-minus-requires : tie.Need-plus-or-minus-requires
-plus-or-minus-requires c κs = search needs
+plus-or-minus-requires c κs = tt
 
 enum-known-negative : tie.Need-enum-known-negative
 enum-known-negative c = search needs
@@ -19,10 +19,10 @@ unfolding timezone-offset-colonless
 returns c = search offsets
 
 space-requires : tie.Need-space-requires
-space-requires c κs = search needs
+space-requires c κs = tt
 
 dec-uint-str-requires : tie.Need-dec-uint-str-requires
-dec-uint-str-requires c κs = search needs
+dec-uint-str-requires c κs = tt
 
 enum-known-end : tie.Need-enum-known-end
 enum-known-end c = search needs
@@ -35,7 +35,7 @@ unfolding timezone-offset-colonless
 returns-2 c = search offsets
 
 parse-uint-requires : tie.Need-parse-uint-requires
-parse-uint-requires c κs = search needs
+parse-uint-requires c κs = tt
 
 enum-known-n : tie.Need-enum-known-n
 enum-known-n c = search needs
@@ -52,7 +52,7 @@ unfolding timezone-offset-colonless
 sub-digits-offset c = search offsets
 
 digits-offset-requires : tie.Need-digits-offset-requires
-digits-offset-requires c κs = search needs
+digits-offset-requires c κs = tt
 
 returns-4 : tie.Need-returns-4
 unfolding timezone-offset-colonless

@@ -5,7 +5,7 @@ use Rattle.times.proofs.offset.unless_fraction.Statement.{statement}
 use Rattle.times.proofs.offset.unless_fraction.Tie as tie
 
 signed-fraction-requires : tie.Need-signed-fraction-requires
-signed-fraction-requires c κs = search needs
+signed-fraction-requires c κs = tt
 
 enum-told : tie.Need-enum-told
 enum-told c = search needs

@@ -5,7 +5,7 @@ use Rattle.times.proofs.offset.unless_relative.Statement.{statement}
 use Rattle.times.proofs.offset.unless_relative.Tie as tie
 
 parse-requires : tie.Need-parse-requires
-parse-requires c κs = search needs
+parse-requires c κs = tt
 
 enum-told : tie.Need-enum-told
 enum-told c = search needs

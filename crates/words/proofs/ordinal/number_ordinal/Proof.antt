@@ -6,16 +6,16 @@ use Rattle.words.proofs.ordinal.number_ordinal.Statement.{statement}
 use Rattle.words.proofs.ordinal.number_ordinal.Tie as tie
 
 space-requires : tie.Need-space-requires
-space-requires c κs = search needs
+space-requires c κs = tt
 
 sign-requires : tie.Need-sign-requires
-sign-requires c κs = search needs
+sign-requires c κs = tt
 
 enum-known-negative : tie.Need-enum-known-negative
 enum-known-negative c = search needs
 
 signed-number-requires : tie.Need-signed-number-requires
-signed-number-requires c κs = search needs
+signed-number-requires c κs = tt
 
 returns : tie.Need-returns
 unfolding number-ordinal
@@ -25,7 +25,7 @@ enum-told : tie.Need-enum-told
 enum-told c = search needs
 
 signed-number-requires-2 : tie.Need-signed-number-requires-2
-signed-number-requires-2 c κs = search needs
+signed-number-requires-2 c κs = tt
 
 returns-2 : tie.Need-returns-2
 unfolding number-ordinal

@@ -6,7 +6,7 @@ use Rattle.words.proofs.ordinal.ordinal.Statement.{statement}
 use Rattle.words.proofs.ordinal.ordinal.Tie as tie
 
 text-ordinal-requires : tie.Need-text-ordinal-requires
-text-ordinal-requires c κs = search needs
+text-ordinal-requires c κs = tt
 
 enum-known-n : tie.Need-enum-known-n
 enum-known-n c = search needs
@@ -15,7 +15,7 @@ enum-told : tie.Need-enum-told
 enum-told c = search needs
 
 number-ordinal-requires : tie.Need-number-ordinal-requires
-number-ordinal-requires c κs = search needs
+number-ordinal-requires c κs = tt
 
 returns : tie.Need-returns
 unfolding ordinal

@@ -11,10 +11,10 @@ use Rattle.words.proofs.ordinal.text_ordinal.Statement.{statement}
 use Rattle.words.proofs.ordinal.text_ordinal.Tie as tie
 
 space-requires : tie.Need-space-requires
-space-requires c κs = search needs
+space-requires c κs = tt
 
 alpha1-requires : tie.Need-alpha1-requires
-alpha1-requires c κs = search needs
+alpha1-requires c κs = tt
 
 enum-known-end : tie.Need-enum-known-end
 enum-known-end c = search needs
@@ -30,7 +30,7 @@ slice-aggregate-find-word : tie.Need-slice-aggregate-find-word
 slice-aggregate-find-word c = search needs
 
 find-word-requires : tie.Need-find-word-requires
-find-word-requires c κs = search needs
+find-word-requires c κs = tt
 
 mul-t13 : tie.Need-mul-t13
 mul-t13 c = search needs
