@@ -100,20 +100,17 @@ module _ {l x rest : List ℕ} {d : Date} {t : Time} (with-t : Bool) (date : Rea
   unfolding parse-item iso-item dated-item date-time-item
   combined-item = first other-item (date ⟨ dated-item ⟩ first _ (time-after-date-read ⟨ (λ v. pure (item.DateTime v)) ⟩ nothing))
 
+pub separator-no-digit : (with-t : Bool) → digit (separatorOf with-t) ≡ false
+unfolding digit
+separator-no-digit true = refl
+separator-no-digit false = refl
+
 -- both dates of digits: `2022-11-14T10:00`, `20221114 10:00`
 module _ {x rest : List ℕ} {t : Time} (with-t : Bool) (h : digit (head x) ≡ true) (time : Reads combined-time x t rest) where
-  separator-no-digit : digit (separatorOf with-t) ≡ false
-  unfolding digit
-  separator-no-digit = go with-t
-    where
-      go : (w : Bool) → digit (separatorOf w) ≡ false
-      go true = refl
-      go false = refl
-
   pub combined-hyphens : (bs : List ℕ) → all blank bs ≡ true → {ys ms ds : List ℕ} → Number ms → Number ds → Year ys (decimal ms) (decimal ds)
       → Reads parse-item (bs ++ (ys ++ (45 ∷ (ms ++ (45 ∷ (ds ++ (separatorOf with-t ∷ x))))))) (item.DateTime (record { date = inYear ys (decimal ms) (decimal ds); time = t })) rest
   unfolding iso-date
-  combined-hyphens bs b k d a = combined-item with-t (first _ (iso1-read (blanks bs b (number-still _ (a .number))) k d a separator-no-digit)) h time
+  combined-hyphens bs b k d a = combined-item with-t (first _ (iso1-read (blanks bs b (number-still _ (a .number))) k d a (separator-no-digit with-t))) h time
 
   no-hyphen : (w : Bool) (l : List ℕ) → Number l → Fails iso1 (l ++ (separatorOf w ∷ x))
   unfolding digit blank
@@ -124,7 +121,7 @@ module _ {x rest : List ℕ} {t : Time} (with-t : Bool) (h : digit (head x) ≡ 
       → Reads parse-item ((ys ++ (ms ++ ds)) ++ (separatorOf with-t ∷ x)) (item.DateTime (record { date = inYear ys (decimal ms) (decimal ds); time = t })) rest
   unfolding iso-date
   combined-row ys ms ds two two′ k d a =
-      combined-item with-t (no-hyphen with-t (ys ++ (ms ++ ds)) (row-number ys ms ds two two′ (a .number) k d) or iso2-read ys ms ds two two′ k d a separator-no-digit) h time
+      combined-item with-t (no-hyphen with-t (ys ++ (ms ++ ds)) (row-number ys ms ds two two′ (a .number) k d) or iso2-read ys ms ds two two′ k d a (separator-no-digit with-t)) h time
 
 -- ---- no time behind a date
 

@@ -134,7 +134,26 @@ small-range : (h m : ℕ) → h < 24 → m < 60 → inRange h m ≡ true
 unfolding inRange
 small-range h m hour minute = rw (le-leb h 24 (omega arith), le-leb m 60 (omega arith), lt-ltb h 24 hour)
 
-module _ (s : List ℕ) (at ns h m : ℕ) (long : at + 16 ≤ length s) (point : getD s at 0 ≡ 46) (fs : Digits (lowered s) (at + 1) (at + 1 + 9) ns) (small : ns < 1000000000) (sign : (getD s (at + 10) 0 ≡ 43) ⊎ (getD s (at + 10) 0 ≡ 45)) (hs : Digits (lowered s) (at + 11) (at + 11 + 2) h) (hour : h < 24) (colon : getD s (at + 13) 0 ≡ 58) (ms : Digits (lowered s) (at + 14) (at + 14 + 2) m) (minute : m < 60) {ds : List ℕ} {v : ℕ} (d : Number ds) (e : decimal ds ≡ v) (second : v < 60) where
+-- the tests of the text's length, of its marks and of what the digits are worth
+module _ (s : List ℕ) (at ns h m : ℕ) (some : 16 ≤ length s) (room : at ≤ length s - 16) (point : getD s at 0 ≡ 46) (fraction : ns < 1000000000 → Digits (lowered s) (at + 1) (at + 1 + 9) ns) (nanoseconds : ns ≤ 999999999) (sign : (getD s (at + 10) 0 ≡ 43) ⊎ (getD s (at + 10) 0 ≡ 45)) (hours : h < 100 → Digits (lowered s) (at + 11) (at + 11 + 2) h) (hour-kept : h ≤ 23) (colon : getD s (at + 13) 0 ≡ 58) (minutes : m < 100 → Digits (lowered s) (at + 14) (at + 14 + 2) m) (minute-kept : m ≤ 59) {ds : List ℕ} {v : ℕ} (d : Number ds) (e : decimal ds ≡ v) (second : v < 60) where
+  small : ns < 1000000000
+  small = omega arith
+
+  hour : h < 24
+  hour = omega arith
+
+  minute : m < 60
+  minute = omega arith
+
+  fs : Digits (lowered s) (at + 1) (at + 1 + 9) ns
+  fs = fraction small
+
+  hs : Digits (lowered s) (at + 11) (at + 11 + 2) h
+  hs = hours (omega arith)
+
+  ms : Digits (lowered s) (at + 14) (at + 14 + 2) m
+  ms = minutes (omega arith)
+
   abbrev west : Bool
   west = eqb (getD s (at + 10) 0) 45
 
@@ -211,7 +230,13 @@ unfolding blank
 no-colon true = at-once _ (colon-else (blanks (32 ∷ []) refl (plain refl)) refl)
 no-colon false = at-once _ (colon-else (blanks (32 ∷ []) refl (plain refl)) refl)
 
-module _ (s : List ℕ) (at next h m : ℕ) (hs : Short (lowered s) at h next) (some-hour : 1 ≤ h) (hour : h ≤ 12) (long : length s - next ≡ 6) (colon : getD s next 0 ≡ 58) (ms : Digits (lowered s) (next + 1) (next + 1 + 2) m) (minute : m < 60) (gap : getD s (next + 3) 0 ≡ 32) (last : getD s (next + 5) 0 ≡ 109) (pm : Bool) (byte : getD s (next + 4) 0 ≡ meridiemByte pm) where
+module _ (s : List ℕ) (at next h m : ℕ) (hs : Short (lowered s) at h next) (some-hour : 1 ≤ h) (hour : h ≤ 12) (long : length s - next ≡ 6) (colon : getD s next 0 ≡ 58) (minutes : m < 100 → Digits (lowered s) (next + 1) (next + 1 + 2) m) (minute-kept : m ≤ 59) (gap : getD s (next + 3) 0 ≡ 32) (last : getD s (next + 5) 0 ≡ 109) (pm : Bool) (byte : getD s (next + 4) 0 ≡ meridiemByte pm) where
+  minute-small : m < 60
+  minute-small = omega arith
+
+  minute-digits : Digits (lowered s) (next + 1) (next + 1 + 2) m
+  minute-digits = minutes (omega arith)
+
   half-written : drop at (lowered s) ≡ slice at next (lowered s) ++ (58 ∷ (slice (next + 1) (next + 1 + 2) (lowered s) ++ (32 ∷ (meridiemByte pm ∷ (109 ∷ [])))))
   unfolding lower
   half-written =
@@ -219,7 +244,7 @@ module _ (s : List ℕ) (at next h m : ℕ) (hs : Short (lowered s) at h next) (
       let more = hs .more in
       let ends : next + 6 ≡ length (lowered s) = omega arith in
       part (lowered s) at next (hs .row .forward)
-      ∙ rw (then-row s next (next + 1) (next + 1 + 2) 58 (next + 3) m refl (omega arith) colon refl (omega arith) ms, then-byte s (next + 3) (next + 4) 32 (omega arith) gap refl (omega arith), then-byte s (next + 4) (next + 5) (meridiemByte pm) (omega arith) byte (meridiem-byte pm) (omega arith), then-byte s (next + 5) (next + 6) 109 (omega arith) last refl (omega arith), nothing-left (lowered s) (next + 6) ends)
+      ∙ rw (then-row s next (next + 1) (next + 1 + 2) 58 (next + 3) m refl (omega arith) colon refl (omega arith) minute-digits, then-byte s (next + 3) (next + 4) 32 (omega arith) gap refl (omega arith), then-byte s (next + 4) (next + 5) (meridiemByte pm) (omega arith) byte (meridiem-byte pm) (omega arith), then-byte s (next + 5) (next + 6) 109 (omega arith) last refl (omega arith), nothing-left (lowered s) (next + 6) ends)
 
   -- `9:30 am`
   pub half-day-read : (v : ℕ) → v ≡ h % 12 + if pm 12 0 → HalfDay (lowered s) at v m 0 0 zone.NotGiven (next + 6)
@@ -230,13 +255,13 @@ module _ (s : List ℕ) (at next h m : ℕ) (hs : Short (lowered s) at h next) (
       let forward = hs .row .forward in
       let first : 0 < decimal (slice at next (lowered s)) = rw (hs .row .value) some-hour in
       let last′ : decimal (slice at next (lowered s)) ≤ 12 = rw (hs .row .value) hour in
-      let minute′ : decimal (slice (next + 1) (next + 1 + 2) (lowered s)) < 60 = rw (ms .value) minute in
+      let minute′ : decimal (slice (next + 1) (next + 1 + 2) (lowered s)) < 60 = rw (minute-digits .value) minute-small in
       record {
-        ranges = record { hour = rw is (below-24 pm); minute = minute; second = omega arith; nanosecond = omega arith; zone = tt };
+        ranges = record { hour = rw is (below-24 pm); minute = minute-small; second = omega arith; nanosecond = omega arith; zone = tt };
         there = omega arith;
         ends = omega arith;
         begins = rw half-written (number-head _ (hs .row .number));
-        reads = λ bs b. rw (half-written, is, ← hs .row .value, ← ms .value) (time-12 bs b (hs .row .number) (ms .number) first last′ minute′ refl (no-second (no-colon pm)) (meridiem-there pm));
+        reads = λ bs b. rw (half-written, is, ← hs .row .value, ← minute-digits .value) (time-12 bs b (hs .row .number) (minute-digits .number) first last′ minute′ refl (no-second (no-colon pm)) (meridiem-there pm));
       }
     where
       below-24 : (p : Bool) → h % 12 + if p 12 0 < 24

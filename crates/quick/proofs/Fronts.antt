@@ -18,7 +18,7 @@ use Rattle.items.specs.declared.Item.the-variants as item
 use Rattle.forms.proofs.Walk.{Reads, Fails}
 use Rattle.forms.proofs.Leaves.{head, Still, plain, digit-still, still, blanks}
 use Rattle.forms.proofs.Items.{iso-date-alone}
-use Rattle.forms.proofs.Combined.{separatorOf, combined-item, no-time-behind}
+use Rattle.forms.proofs.Combined.{separatorOf, separator-no-digit, combined-item, no-time-behind}
 use Rattle.forms.proofs.Lists.{no-more-items, one-item}
 use Rattle.quick.proofs.Places.{byte-there}
 use Rattle.quick.specs.Days.{dayOf, Iso, IsoDate, Other, OtherDate}
@@ -82,9 +82,6 @@ small-zone z e a = rw e at a
 pub separator-at : (s : List ℕ) (at b : ℕ) (with-t : Bool) → at < length s → b ≡ lower (getD s at 0) → b ≡ separatorOf with-t → SeparatorAt (lowered s) at
 separator-at s at b w h e k = record { with-t = w; there = let g : at < length (lowered s) = rw (length-lowered s) h in byte-there (lowered s) at g ∙ rw (getD-lowered s at, ← e, k) }
 
-pub not-so : {X : Type 0} → false ≡ true → X
-not-so e = let z : _≡_ {A = ℕ} 0 1 = cc in absurd (omega arith)
-
 -- ---- an ISO date
 
 module _ {text : List ℕ} {y m d n : ℕ} (a : Iso text y m d n) where
@@ -134,11 +131,6 @@ module _ {text : List ℕ} {y m d n : ℕ} (a : Iso text y m d n) where
   module _ (p : SeparatorAt text n) {h i s j : ℕ} {z : Zone} {k : ℕ} (c : Clock text (n + 1) h i s j z k) where
     abbrev clocked : Shape
     clocked = record { year = y; month = m; day = d; hour = h; minute = i; second = s; nanosecond = j; zone = z; next = k }
-
-    separator-no-digit : (w : Bool) → digit (separatorOf w) ≡ false
-    unfolding digit
-    separator-no-digit true = refl
-    separator-no-digit false = refl
 
     both : exists y m d ≡ true → Reads parse-item text (item.DateTime (record { date = dayOf y m d; time = timeOf h i s j z })) (c .gap ++ drop k text)
     both t =

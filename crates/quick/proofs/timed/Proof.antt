@@ -5,13 +5,14 @@ use Rattle.quick.proofs.timed.Tie as tie
 use native.Mathlib.Omega.{arith}
 use mathlib.Core.Bool.{true, false}
 use mathlib.Core.Path.{refl}
-use Rattle.quick.proofs.Fronts.{separator-at, not-so}
+use Rattle.quick.proofs.Fronts.{separator-at}
+use Rattle.integers.proofs.Differences.{untrue}
 
 sub-if1 : tie.Need-sub-if1
 sub-if1 c = search needs
 
 returns : tie.Need-returns
-returns c = not-so
+returns c = untrue
 
 add-if2 : tie.Need-add-if2
 add-if2 c = search needs
@@ -20,7 +21,7 @@ shared-slice-read-if2 : tie.Need-shared-slice-read-if2
 shared-slice-read-if2 c = search needs
 
 returns-2 : tie.Need-returns-2
-returns-2 c = not-so
+returns-2 c = untrue
 
 shared-slice-read-to-lower : tie.Need-shared-slice-read-to-lower
 shared-slice-read-to-lower c = search needs
@@ -35,7 +36,7 @@ returns-4 : tie.Need-returns-4
 returns-4 c = λ _. separator-at _ _ _ true (omega arith) (c .before .before .to-lower .ensures) (c .if4 .taken)
 
 returns-5 : tie.Need-returns-5
-returns-5 c = not-so
+returns-5 c = untrue
 
 pub timed-spec : {M : Type 1} → statement M
 timed-spec =

@@ -1,5 +1,6 @@
 -- `scan_table` is the index of the word. The loop's invariant: what is left of the table, with the word that is gone through agreed up to `i`,
 -- leads to the index. Assumes nothing.
+use native.Mathlib.Omega.{arith}
 use lib.Seq.{slice}
 use Rattle.primitive.proofs.Tables.{scans, scanFrom}
 use mathlib.Core.Path.{_≡_}
@@ -20,7 +21,7 @@ add-differs : tie.Need-add-differs Inv-loop μ-loop
 add-differs c = search scans
 
 loop-holds : tie.Need-loop-holds Inv-loop μ-loop
-loop-holds c = search scans
+loop-holds c = (omega arith, omega arith, search scans)
 
 shared-slice-read-b : tie.Need-shared-slice-read-b Inv-loop μ-loop
 shared-slice-read-b c = search scans
@@ -38,7 +39,7 @@ loop-less : tie.Need-loop-less Inv-loop μ-loop
 loop-less c = search scans
 
 loop-again : tie.Need-loop-again Inv-loop μ-loop
-loop-again c = search scans
+loop-again c = (omega arith, omega arith, search scans)
 
 shared-slice-read-to-lower : tie.Need-shared-slice-read-to-lower Inv-loop μ-loop
 shared-slice-read-to-lower c = search scans
@@ -53,19 +54,19 @@ loop-less-2 : tie.Need-loop-less-2 Inv-loop μ-loop
 loop-less-2 c = search scans
 
 loop-again-2 : tie.Need-loop-again-2 Inv-loop μ-loop
-loop-again-2 c = search scans
+loop-again-2 c = (omega arith, omega arith, search scans)
 
 loop-less-3 : tie.Need-loop-less-3 Inv-loop μ-loop
 loop-less-3 c = search scans
 
 loop-again-3 : tie.Need-loop-again-3 Inv-loop μ-loop
-loop-again-3 c = search scans
+loop-again-3 c = (omega arith, omega arith, search scans)
 
 loop-less-4 : tie.Need-loop-less-4 Inv-loop μ-loop
 loop-less-4 c = search scans
 
 loop-again-4 : tie.Need-loop-again-4 Inv-loop μ-loop
-loop-again-4 c = search scans
+loop-again-4 c = (omega arith, omega arith, search scans)
 
 returns-2 : tie.Need-returns-2 Inv-loop μ-loop
 returns-2 c = search scans

@@ -8,67 +8,67 @@ use Rattle.quick.proofs.clocks.fraction_and_zone.Statement.{statement}
 use Rattle.quick.proofs.clocks.fraction_and_zone.Tie as tie
 
 returns : tie.Need-returns
-returns c = search needs
+returns c = tt
 
 sub-if2 : tie.Need-sub-if2
-sub-if2 c = search needs
+sub-if2 c = omega arith
 
 returns-2 : tie.Need-returns-2
-returns-2 c = search needs
+returns-2 c = tt
 
 shared-slice-read-if3 : tie.Need-shared-slice-read-if3
-shared-slice-read-if3 c = search needs
+shared-slice-read-if3 c = omega arith
 
 returns-3 : tie.Need-returns-3
-returns-3 c = search needs
+returns-3 c = tt
 
 add-nine : tie.Need-add-nine
-add-nine c = search needs
+add-nine c = omega arith
 
 nine-requires : tie.Need-nine-requires
-nine-requires c κs = search needs
+nine-requires c κs = omega arith
 
 returns-4 : tie.Need-returns-4
-returns-4 c = search needs
+returns-4 c = tt
 
 add-sign : tie.Need-add-sign
-add-sign c = search needs
+add-sign c = omega arith
 
 shared-slice-read-sign : tie.Need-shared-slice-read-sign
-shared-slice-read-sign c = search needs
+shared-slice-read-sign c = omega arith
 
 returns-5 : tie.Need-returns-5
-returns-5 c = search needs
+returns-5 c = tt
 
 add-if7 : tie.Need-add-if7
-add-if7 c = search needs
+add-if7 c = omega arith
 
 shared-slice-read-if7 : tie.Need-shared-slice-read-if7
-shared-slice-read-if7 c = search needs
+shared-slice-read-if7 c = omega arith
 
 returns-6 : tie.Need-returns-6
-returns-6 c = search needs
+returns-6 c = tt
 
 add-two : tie.Need-add-two
-add-two c = search needs
+add-two c = omega arith
 
 two-requires : tie.Need-two-requires
-two-requires c κs = search needs
+two-requires c κs = omega arith
 
 returns-7 : tie.Need-returns-7
-returns-7 c = search needs
+returns-7 c = tt
 
 add-two-2 : tie.Need-add-two-2
-add-two-2 c = search needs
+add-two-2 c = omega arith
 
 two-requires-2 : tie.Need-two-requires-2
-two-requires-2 c κs = search needs
+two-requires-2 c κs = omega arith
 
 returns-8 : tie.Need-returns-8
-returns-8 c = search needs
+returns-8 c = tt
 
 add-end : tie.Need-add-end
-add-end c = search needs
+add-end c = omega arith
 
 returns-9 : tie.Need-returns-9
 returns-9 c =
@@ -76,34 +76,34 @@ returns-9 c =
       refl,
       (
         refl,
-        λ ds d e small. zone-ends _ _ _ _ _ (omega arith) (k .before .before .before .before .before .before .before .before .before .before .if3 .left) (k .before .before .before .before .before .before .before .before .before .nine .ensures .1 (omega arith)) (omega arith) (⊎-elim (λ w. inr (w .1 .left)) (λ w. inl (w .left)) (k .before .before .before .before .before .before .if5 .came))
-            (k .before .before .before .two .ensures .1 (omega arith)) (omega arith) (k .before .before .before .before .if7 .left) (k .before .two2 .ensures .1 (omega arith)) (omega arith) d e small (c .if10 .taken),
+        λ ds d e small. zone-ends _ _ _ _ _ (k .before .before .before .before .before .before .before .before .before .before .before .before .before .if1 .left) (k .before .before .before .before .before .before .before .before .before .before .before .before .if2 .left) (k .before .before .before .before .before .before .before .before .before .before .if3 .left) (k .before .before .before .before .before .before .before .before .before .nine .ensures .1) (k .before .before .before .before .before .before .before .before .if4 .left)
+            (⊎-elim (λ w. inr (w .1 .left)) (λ w. inl (w .left)) (k .before .before .before .before .before .before .if5 .came)) (k .before .before .before .two .ensures .1) (k .before .before .if8 .left) (k .before .before .before .before .if7 .left) (k .before .two2 .ensures .1) (k .if9 .left) d e small (c .if10 .taken),
       ),
     )
 
 shared-slice-read-if11 : tie.Need-shared-slice-read-if11
-shared-slice-read-if11 c = search needs
+shared-slice-read-if11 c = omega arith
 
 returns-10 : tie.Need-returns-10
-returns-10 c = search needs
+returns-10 c = tt
 
 add-next : tie.Need-add-next
-add-next c = search needs
+add-next c = omega arith
 
 returns-11 : tie.Need-returns-11
-returns-11 c = search needs
+returns-11 c = tt
 
 shared-slice-read-if13 : tie.Need-shared-slice-read-if13
-shared-slice-read-if13 c = search needs
+shared-slice-read-if13 c = omega arith
 
 returns-12 : tie.Need-returns-12
-returns-12 c = search needs
+returns-12 c = tt
 
 shared-slice-read-if14 : tie.Need-shared-slice-read-if14
-shared-slice-read-if14 c = search needs
+shared-slice-read-if14 c = omega arith
 
 returns-13 : tie.Need-returns-13
-returns-13 c = search needs
+returns-13 c = tt
 
 returns-14 : tie.Need-returns-14
 returns-14 c =
@@ -111,9 +111,9 @@ returns-14 c =
       refl,
       (
         refl,
-        λ ds d e small. zone-before _ _ _ _ _ (omega arith) (k .before .before .before .before .before .before .before .before .before .before .if3 .left) (k .before .before .before .before .before .before .before .before .before .nine .ensures .1 (omega arith)) (omega arith) (⊎-elim (λ w. inr (w .1 .left)) (λ w. inl (w .left)) (k .before .before .before .before .before .before .if5 .came))
-            (k .before .before .before .two .ensures .1 (omega arith)) (omega arith) (k .before .before .before .before .if7 .left) (k .before .two2 .ensures .1 (omega arith)) (omega arith) d e small
-            (c .before .before .before .before .before .if11 .left) (omega arith) (c .before .before .if13 .left) (c .if14 .left),
+        λ ds d e small. zone-before _ _ _ _ _ (k .before .before .before .before .before .before .before .before .before .before .before .before .before .if1 .left) (k .before .before .before .before .before .before .before .before .before .before .before .before .if2 .left) (k .before .before .before .before .before .before .before .before .before .before .if3 .left) (k .before .before .before .before .before .before .before .before .before .nine .ensures .1) (k .before .before .before .before .before .before .before .before .if4 .left)
+            (⊎-elim (λ w. inr (w .1 .left)) (λ w. inl (w .left)) (k .before .before .before .before .before .before .if5 .came)) (k .before .before .before .two .ensures .1) (k .before .before .if8 .left) (k .before .before .before .before .if7 .left) (k .before .two2 .ensures .1) (k .if9 .left) d e small
+            (c .before .before .before .before .before .if11 .left) (c .before .before .before .before .if12 .left) (c .before .before .if13 .left) (c .if14 .left),
       ),
     )
 
