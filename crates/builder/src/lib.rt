@@ -184,7 +184,7 @@ fn on_weekday(given: GivenWeekday, dt: ExtendedDateTime) -> Made
     let GivenWeekday::Given(weekday) = given else {
         return Made::Record(dt);
     };
-    match dt.weekday_monday0() {
+    match moments::weekday_monday0(dt) {
         DayCount::Days(today) => forwarded(weekday, today, dt),
         DayCount::Refused(number) => Made::Refused(number),
     }
@@ -307,7 +307,7 @@ fn add_relative(relative: Relative, dt: ExtendedDateTime) -> Made
         Relative::Days(days) => sums::checked_add_days(dt, integers::widen(days)),
         Relative::Hours(hours) => sums::checked_add_hours(dt, integers::widen(hours)),
         Relative::Minutes(minutes) => sums::checked_add_minutes(dt, integers::widen(minutes)),
-        Relative::Seconds(seconds, nanos) => dt.checked_add_seconds(seconds, nanos),
+        Relative::Seconds(seconds, nanos) => moments::checked_add_seconds(dt, seconds, nanos),
     }
 }
 

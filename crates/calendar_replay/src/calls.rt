@@ -64,7 +64,7 @@ pub fn answer(name: u64, a: &[u64; 13]) {
 }
 
 fn from_unix_seconds(a: &[u64; 13]) -> Made {
-    ExtendedDateTime::from_unix_seconds(
+    moments::from_unix_seconds(
         numbers::i64_at(a, 1),
         numbers::u32_at(a, 2),
         numbers::narrowed(numbers::i64_at(a, 3)),
@@ -87,19 +87,19 @@ fn record(a: &[u64; 13]) -> ExtendedDateTime {
 // The functions of a record: first those that give a number.
 fn answer_record(name: u64, r: ExtendedDateTime, a: &[u64; 13]) {
     if name == UNIX_SECONDS {
-        replies::print_seconds(r.unix_seconds());
+        replies::print_seconds(moments::unix_seconds(r));
         return;
     }
     if name == WEEKDAY {
-        replies::print_days(r.weekday_monday0());
+        replies::print_days(moments::weekday_monday0(r));
         return;
     }
     if name == WEEKDAY_SUNDAY0 {
-        replies::print_days(r.weekday_sunday0());
+        replies::print_days(moments::weekday_sunday0(r));
         return;
     }
     if name == DAY_OF_YEAR {
-        replies::print_days(r.day_of_year());
+        replies::print_days(moments::day_of_year(r));
         return;
     }
     replies::print_made(added(name, r, a));
@@ -117,7 +117,7 @@ fn added(name: u64, r: ExtendedDateTime, a: &[u64; 13]) -> Made {
         return sums::checked_add_minutes(r, count);
     }
     if name == ADD_SECONDS {
-        return r.checked_add_seconds(count, numbers::u32_at(a, 10));
+        return moments::checked_add_seconds(r, count, numbers::u32_at(a, 10));
     }
     moved(name, r, a)
 }

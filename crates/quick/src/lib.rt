@@ -304,6 +304,6 @@ fn moved(dt: ExtendedDateTime, unit: TimeUnit, n: i32) -> Made
         TimeUnit::Week => sums::checked_add_days(dt, n as i64 * 7),
         TimeUnit::Day => sums::checked_add_days(dt, n as i64),
         TimeUnit::Hour => sums::checked_add_hours(dt, n as i64),
-        TimeUnit::Second => dt.checked_add_seconds(n as i64, 0),
+        TimeUnit::Second => moments::checked_add_seconds(dt, n as i64, 0),
     }
 }

@@ -105,14 +105,14 @@ pub extern "C" fn seqtullo_from_unix_seconds(
 ) -> Answer
     ensures { λ r. ⌜ r ≡ recordAnswer (fromUnixSeconds «unix_seconds» nanosecond «offset_seconds») ⌝ }
 {
-    record_answer(ExtendedDateTime::from_unix_seconds(unix_seconds, nanosecond, offset_seconds))
+    record_answer(moments::from_unix_seconds(unix_seconds, nanosecond, offset_seconds))
 }
 
 #[no_mangle]
 pub extern "C" fn seqtullo_unix_seconds(record: Record) -> Moment
     ensures { λ r. ⌜ r ≡ momentAnswer (unixSeconds «record») ⌝ }
 {
-    let moment = record.unix_seconds();
+    let moment = moments::unix_seconds(record);
     match moment {
         UnixSeconds::At(seconds) => Moment {
             number: 0,
@@ -150,7 +150,7 @@ pub extern "C" fn seqtullo_add_minutes(record: Record, minutes: i64) -> Answer
 pub extern "C" fn seqtullo_add_seconds(record: Record, seconds: i64, nanoseconds: u32) -> Answer
     ensures { λ r. ⌜ r ≡ recordAnswer (addSeconds «record» seconds nanoseconds) ⌝ }
 {
-    record_answer(record.checked_add_seconds(seconds, nanoseconds))
+    record_answer(moments::checked_add_seconds(record, seconds, nanoseconds))
 }
 
 #[no_mangle]
@@ -172,14 +172,14 @@ pub extern "C" fn seqtullo_add_months(record: Record, months: i32) -> Answer
 pub extern "C" fn seqtullo_weekday(record: Record) -> Number
     ensures { λ r. ⌜ r ≡ numberAnswer (weekdayMonday0 «record») ⌝ }
 {
-    number_answer(record.weekday_monday0())
+    number_answer(moments::weekday_monday0(record))
 }
 
 #[no_mangle]
 pub extern "C" fn seqtullo_day_of_year(record: Record) -> Number
     ensures { λ r. ⌜ r ≡ numberAnswer (dayOfYear «record») ⌝ }
 {
-    number_answer(record.day_of_year())
+    number_answer(moments::day_of_year(record))
 }
 
 #[no_mangle]

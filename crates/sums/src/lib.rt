@@ -40,7 +40,7 @@ fn checked_add_units(dt: ExtendedDateTime, count: i64, worth: u32) -> Made
     let Checked::Fits(seconds) = integers::checked_mul(count, worth) else {
         return Made::Refused(18);
     };
-    dt.checked_add_seconds(seconds, 0)
+    moments::checked_add_seconds(dt, seconds, 0)
 }
 
 pub fn checked_add_years(dt: ExtendedDateTime, years: i32) -> Made
