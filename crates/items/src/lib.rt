@@ -143,7 +143,7 @@ fn time_or_relative(s: &[u8], at: usize) -> ReadItem
 fn relative_item(s: &[u8], at: usize) -> ReadItem
     ensures { λ r. ⌜ itemAnswer r ≡ relative-item (lowered (now (s .entry))) at ⌝ }
 {
-    let ReadRelative::Match(v, next) = relative::parse(s, at) else {
+    let ReadRelative::Match(v, next) = relative_forms::parse(s, at) else {
         return ReadItem::NoMatch;
     };
     ReadItem::Match(Item::Relative(v), next)

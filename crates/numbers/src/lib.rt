@@ -1,7 +1,5 @@
 // Numbers in digits, as in items/primitive.rs. One that is too large for its type is no match.
 
-pub mod epoch;
-
 use primitive::ReadI32;
 use primitive::ReadPlace;
 use primitive::ReadU8;
@@ -107,7 +105,7 @@ pub fn dec_u32(s: &[u8], at: usize) -> ReadU32
     ReadU32::Match(v as u32, next)
 }
 
-pub(crate) fn dec_u64(s: &[u8], at: usize) -> ReadU64
+pub fn dec_u64(s: &[u8], at: usize) -> ReadU64
     ensures { λ r. ⌜ u64Answer r ≡ dec-uint 18446744073709551615 (lowered (now (s .entry))) at ⌝ }
 {
     let ReadU64::Match(n, next) = dec_uint(s, at, 999999999999999999) else {

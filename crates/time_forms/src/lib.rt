@@ -51,7 +51,7 @@ pub fn iso(s: &[u8], at: usize) -> ReadTime
 fn hour_offset(s: &[u8], at: usize, hour: u8) -> ReadTime
     ensures { λ r. ⌜ timeAnswer r ≡ offset-behind hour (lowered (now (s .entry))) at ⌝ }
 {
-    match times::offset::timezone_offset(s, at) {
+    match offsets::timezone_offset(s, at) {
         ReadOffset::Match(o, next) => ReadTime::Match(
             Time {
                 hour,
@@ -94,7 +94,7 @@ fn clock(s: &[u8], at: usize, hour: u8) -> ReadTime
 fn optional_correction(s: &[u8], at: usize) -> ReadTimeOffset
     ensures { λ r. ⌜ timeOffsetAnswer r ≡ optional-correction (lowered (now (s .entry))) at ⌝ }
 {
-    match times::offset::time_zone_correction(s, at) {
+    match offsets::time_zone_correction(s, at) {
         ReadOffset::Match(o, next) => ReadTimeOffset::Match(TimeOffset::Given(o), next),
         ReadOffset::NoMatch => ReadTimeOffset::Match(TimeOffset::NotGiven, at),
         ReadOffset::Stop => ReadTimeOffset::Stop,
@@ -223,7 +223,7 @@ fn second(s: &[u8], at: usize) -> ReadSecNsec
     ensures { λ r. ⌜ secNsecAnswer r ≡ second (lowered (now (s .entry))) at ⌝ }
 {
     let start = spaces::space(s, at);
-    let ReadSecAndNsec::Match(v, next) = numbers::epoch::sec_and_nsec(s, start) else {
+    let ReadSecAndNsec::Match(v, next) = epoch::sec_and_nsec(s, start) else {
         return ReadSecNsec::NoMatch;
     };
     let sec = v.sec;

@@ -1,4 +1,4 @@
-// Offsets from UTC, the readers of items/offset.rs, and what the readers of times of day, which stand on this crate, answer.
+// What offsets from UTC and times of day are. Their readers stand on this crate; the definitions and laws of these are here.
 
 pub mod offset;
 pub mod time;
