@@ -23,7 +23,7 @@ pub enum ReadDateTime {
 }
 
 // The separator and the time of an item whose ISO date has been read.
-pub(crate) fn parse_time_after_date(s: &[u8], at: usize, date: Date) -> ReadDateTime
+pub fn parse_time_after_date(s: &[u8], at: usize, date: Date) -> ReadDateTime
     ensures { λ r. ⌜ dateTimeAnswer r ≡ parse-time-after-date date (lowered (now (s .entry))) at ⌝ }
 {
     let ReadPlace::Match(at) = separator(s, at) else {

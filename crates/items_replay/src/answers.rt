@@ -37,7 +37,7 @@ fn walk(text: &[u8], print: bool) -> End {
     let mut count = 0usize;
     let mut i = 0usize;
     while spaces::space(text, i) < text.len() {
-        let read = items::parse_item(text, i);
+        let read = item_forms::parse_item(text, i);
         match read {
             ReadItem::Match(item, next) => {
                 if count >= 64 {

@@ -70,7 +70,7 @@ fn build_text(text: &[u8], base: ExtendedDateTime) -> Built
     let mut count = 0;
     let mut i = 0;
     while spaces::space(text, i) < text.len() {
-        let read = items::parse_item(text, i);
+        let read = item_forms::parse_item(text, i);
         match read {
             ReadItem::Match(item, next) => {
                 if count == 64 {

@@ -1,9 +1,9 @@
 -- `number_item` is its definition's choice. Assumes nothing.
 use borrow.Author.Needs.{needs}
 use Rattle.items.proofs.Chain.{items}
 use Rattle.items.specs.Items.{parse-item}
-use Rattle.items.proofs.number_item.Statement.{statement}
-use Rattle.items.proofs.number_item.Tie as tie
+use Rattle.item_forms.proofs.number_item.Statement.{statement}
+use Rattle.item_forms.proofs.number_item.Tie as tie
 
 iso-item-requires : tie.Need-iso-item-requires
 iso-item-requires c κs = tt

@@ -1,9 +1,9 @@
 -- `iso_date` is its definition's choice. Assumes nothing.
 use borrow.Author.Needs.{needs}
 use Rattle.items.proofs.Chain.{items}
 use Rattle.items.specs.Items.{iso-date}
-use Rattle.items.proofs.iso_date.Statement.{statement}
-use Rattle.items.proofs.iso_date.Tie as tie
+use Rattle.item_forms.proofs.iso_date.Statement.{statement}
+use Rattle.item_forms.proofs.iso_date.Tie as tie
 
 iso1-requires : tie.Need-iso1-requires
 iso1-requires c κs = tt

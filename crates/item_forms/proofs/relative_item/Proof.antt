@@ -1,9 +1,9 @@
 -- `relative_item` is its definition's chain. Assumes nothing.
 use borrow.Author.Needs.{needs}
 use Rattle.items.proofs.Chain.{items}
 use Rattle.items.specs.Items.{relative-item}
-use Rattle.items.proofs.relative_item.Statement.{statement}
-use Rattle.items.proofs.relative_item.Tie as tie
+use Rattle.item_forms.proofs.relative_item.Statement.{statement}
+use Rattle.item_forms.proofs.relative_item.Tie as tie
 
 parse-requires : tie.Need-parse-requires
 parse-requires c κs = tt

@@ -1,9 +1,9 @@
 -- `time_or_relative` is its definition's choice. Assumes nothing.
 use borrow.Author.Needs.{needs}
 use Rattle.items.proofs.Chain.{items}
 use Rattle.items.specs.Items.{time-item, time-or-relative}
-use Rattle.items.proofs.time_or_relative.Statement.{statement}
-use Rattle.items.proofs.time_or_relative.Tie as tie
+use Rattle.item_forms.proofs.time_or_relative.Statement.{statement}
+use Rattle.item_forms.proofs.time_or_relative.Tie as tie
 
 parse-requires : tie.Need-parse-requires
 parse-requires c κs = tt

@@ -1,8 +1,8 @@
 -- `parse_item` is its definition, by the first byte behind the space. Assumes nothing.
 use Rattle.items.proofs.Fronts.{fronts}
 use borrow.Author.Needs.{needs}
-use Rattle.items.proofs.parse_item.Statement.{statement}
-use Rattle.items.proofs.parse_item.Tie as tie
+use Rattle.item_forms.proofs.parse_item.Statement.{statement}
+use Rattle.item_forms.proofs.parse_item.Tie as tie
 
 space-requires : tie.Need-space-requires
 space-requires c κs = tt

@@ -1,9 +1,9 @@
 -- `dated_item` is its definition's choice. Assumes nothing.
 use borrow.Author.Needs.{needs}
 use Rattle.items.proofs.Chain.{items}
 use Rattle.items.specs.Items.{date-time-item, dated-item}
-use Rattle.items.proofs.dated_item.Statement.{statement}
-use Rattle.items.proofs.dated_item.Tie as tie
+use Rattle.item_forms.proofs.dated_item.Statement.{statement}
+use Rattle.item_forms.proofs.dated_item.Tie as tie
 
 parse-time-after-date-requires : tie.Need-parse-time-after-date-requires
 parse-time-after-date-requires c κs = tt

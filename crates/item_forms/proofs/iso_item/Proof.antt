@@ -1,9 +1,9 @@
 -- `iso_item` is its definition's chain. Assumes nothing.
 use borrow.Author.Needs.{needs}
 use Rattle.items.proofs.Chain.{items}
 use Rattle.items.specs.Items.{iso-item}
-use Rattle.items.proofs.iso_item.Statement.{statement}
-use Rattle.items.proofs.iso_item.Tie as tie
+use Rattle.item_forms.proofs.iso_item.Statement.{statement}
+use Rattle.item_forms.proofs.iso_item.Tie as tie
 
 iso-date-requires : tie.Need-iso-date-requires
 iso-date-requires c κs = tt

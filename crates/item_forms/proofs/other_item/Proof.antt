@@ -1,9 +1,9 @@
 -- `other_item` is its definition's choice. Assumes nothing.
 use borrow.Author.Needs.{needs}
 use Rattle.items.proofs.Chain.{items}
 use Rattle.items.specs.Items.{date-item, other-item}
-use Rattle.items.proofs.other_item.Statement.{statement}
-use Rattle.items.proofs.other_item.Tie as tie
+use Rattle.item_forms.proofs.other_item.Statement.{statement}
+use Rattle.item_forms.proofs.other_item.Tie as tie
 
 parse-non-iso-requires : tie.Need-parse-non-iso-requires
 parse-non-iso-requires c κs = tt
