@@ -32,7 +32,7 @@ pub fn iso1(s: &[u8], at: usize) -> ReadDate
     let ReadU8::Match(day, at) = numbers::spaced_u8(s, at) else {
         return ReadDate::NoMatch;
     };
-    dates::date::with_year(s, from, to, month, day, at)
+    date_parts::with_year(s, from, to, month, day, at)
 }
 
 // `20221114`; the combined item begins with it too. No space is skipped in front.
@@ -51,7 +51,7 @@ pub fn iso2(s: &[u8], at: usize) -> ReadDate
     let ReadU8::Match(day, _) = u8_from_str(s, end - 2, end) else {
         return ReadDate::NoMatch;
     };
-    dates::date::with_year(s, at, end - 4, month, day, end)
+    date_parts::with_year(s, at, end - 4, month, day, end)
 }
 
 // The Rust's `month_from_str` and `day_from_str`.
@@ -93,7 +93,7 @@ fn dotted(s: &[u8], at: usize) -> ReadDate
     let ReadPlace::Match(at) = spaces::spaced_byte(s, at, 46) else {
         return ReadDate::NoMatch;
     };
-    dates::date::plain_dated(s, at, month, day)
+    date_parts::plain_dated(s, at, month, day)
 }
 
 // `2022/11/14`, `11/14/2022` or `11/14`.
@@ -141,18 +141,18 @@ fn us_date(s: &[u8], at: usize, from: usize, to: usize, number: u8, last: ReadYe
                 let ReadU8::Match(day, _) = u8_from_str(s, start, end) else {
                     return ReadDate::NoMatch;
                 };
-                return dates::date::with_year(s, from, to, number, day, next);
+                return date_parts::with_year(s, from, to, number, day, next);
             }
             let ReadU8::Match(month, _) = u8_from_str(s, from, to) else {
                 return ReadDate::NoMatch;
             };
-            dates::date::with_year(s, start, end, month, number, next)
+            date_parts::with_year(s, start, end, month, number, next)
         }
         ReadYear::Unwritten => {
             let ReadU8::Match(month, _) = u8_from_str(s, from, to) else {
                 return ReadDate::NoMatch;
             };
-            dates::date::without_year(month, number, at)
+            date_parts::without_year(month, number, at)
         }
     }
 }
@@ -176,10 +176,10 @@ fn literal1(s: &[u8], at: usize) -> ReadDate
     let ReadU8::Match(day, at) = numbers::spaced_u8(s, at) else {
         return ReadDate::NoMatch;
     };
-    let ReadU8::Match(month, at) = months::spaced_month(s, dates::date::hyphen(s, at)) else {
+    let ReadU8::Match(month, at) = months::spaced_month(s, date_parts::hyphen(s, at)) else {
         return ReadDate::NoMatch;
     };
-    dates::date::hyphen_dated(s, at, month, day)
+    date_parts::hyphen_dated(s, at, month, day)
 }
 
 // `November 14, 2022`, `Nov 14, 2022`, `Nov 14 2022`, `Nov 14`.
@@ -192,7 +192,7 @@ fn literal2(s: &[u8], at: usize) -> ReadDate
     let ReadU8::Match(day, at) = numbers::spaced_u8(s, at) else {
         return ReadDate::NoMatch;
     };
-    dates::date::comma_dated(s, at, month, day)
+    date_parts::comma_dated(s, at, month, day)
 }
 
 // `November-14-2022` and `Nov-14-2022`. Unlike in `literal2` the year is always there.
@@ -214,5 +214,5 @@ fn literal3(s: &[u8], at: usize) -> ReadDate
     let ReadDigits::Match(from, to) = dates::year::year_str(s, at) else {
         return ReadDate::NoMatch;
     };
-    dates::date::with_year(s, from, to, month, day, to)
+    date_parts::with_year(s, from, to, month, day, to)
 }

@@ -166,7 +166,6 @@ impl ExtendedDateTime {
             nanosecond: self.nanosecond,
         }
     }
-
 }
 
 // The one place where a record is put together.

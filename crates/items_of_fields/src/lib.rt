@@ -255,9 +255,9 @@ fn date_in_range(date: Date) -> bool
             if 2147485547 < year {
                 return false;
             }
-            dates::date::exists(year, date.month, date.day)
+            date_parts::exists(year, date.month, date.day)
         }
-        DateYear::Absent => dates::date::exists(2000, date.month, date.day),
+        DateYear::Absent => date_parts::exists(2000, date.month, date.day),
     }
 }
 
