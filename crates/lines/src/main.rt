@@ -89,7 +89,7 @@ fn turn(input: &mut [u8], output: &mut [u8], at: Standing) -> Standing {
 }
 
 fn refuse(output: &mut [u8], built: Built) {
-    let n = lines_lib::put_first(built, output);
+    let n = answers::put_first(built, output);
     io::write_all(1, &output[0..n]);
 }
 

@@ -12,9 +12,9 @@ use lib.ListN.{length, take, drop, length-append, length-take, length-drop, take
 use lib.Seq.{length-take-le, drop-drop}
 use Rattle.extended.specs.declared.ExtendedDateTime.{ExtendedDateTime}
 use Rattle.reading.specs.Reading.{readText}
-use Rattle.lines_lib.specs.Answers.{lineAnswer, putAt, Put}
+use Rattle.answers.specs.Answers.{lineAnswer, putAt, Put}
 use Rattle.lines_lib.specs.Lines.{lineLength, wholeLines, answers, fitting, answered, unlines, wanting}
-use Rattle.lines_lib.proofs.Putting.{put-behind, part-put}
+use Rattle.answers.proofs.Putting.{put-behind, part-put}
 use Rattle.line_ends.proofs.Splitting.{whole-none, whole-more}
 
 no-room : (base : ExtendedDateTime) (room : ℕ) (ls : List (List ℕ)) → room < 44 → fitting base room ls ≡ []

@@ -17,7 +17,7 @@ use Rattle.primitive.specs.Text.{lowered}
 use Rattle.primitive.proofs.Lowered.{length-lowered}
 use Rattle.rules.specs.Placed.{Placed, refusal, placed, _>>_}
 use Rattle.reading.specs.Reading.{readLowered, readText}
-use Rattle.lines_lib.specs.Answers.{lineAnswer}
+use Rattle.answers.specs.Answers.{lineAnswer}
 use Rattle.lines_lib.specs.Lines.{inFront, lines, lineLength, answers, answered, unlines, wanting, epoch, outputOf, output}
 use Rattle.line_ends.proofs.Splitting.{line-inside}
 use Rattle.lines_lib.proofs.Answering.{answered-full, answered-none, answered-more}

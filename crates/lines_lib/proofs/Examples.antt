@@ -11,7 +11,7 @@ use Rattle.extended.specs.declared.ExtendedDateTime.{ExtendedDateTime}
 use Rattle.rules.specs.Placed.{fine, refusal}
 use Rattle.reading.specs.Reading.{readText}
 use Rattle.writer.specs.Writer.{fixed, widthUpTo, width, digits, padded, textOf, written}
-use Rattle.lines_lib.specs.Answers.{refusalLine, writtenLine, lineAnswer}
+use Rattle.answers.specs.Answers.{refusalLine, writtenLine, lineAnswer}
 use Rattle.lines_lib.specs.Lines.{inFront, lines, answers, epoch, underBase, outputOf, output}
 
 abbrev base : List ℕ

@@ -1,7 +1,4 @@
 -- The laws and theorems of the crate `lines_lib`.
-pub mod Widths
-pub mod Putting
-pub mod Part
 pub mod Answering
 pub mod Chunks
 pub mod Turns

@@ -13,7 +13,7 @@ use Rattle.extended.specs.declared.ExtendedDateTime.{ExtendedDateTime}
 use Rattle.extended.proofs.Counting.{and-left, and-right}
 use Rattle.rules.specs.Placed.{Placed, fine, refusal}
 use Rattle.reading.specs.Reading.{readText}
-use Rattle.lines_lib.specs.Answers.{lineAnswer}
+use Rattle.answers.specs.Answers.{lineAnswer}
 use Rattle.lines_lib.specs.Lines.{lineLength, answers, answered, unlines, wanting, epoch, output}
 use Rattle.lines_lib.specs.Turns.{rest, full, Prints, again, read, close, end, Begins, seek, close-first, nothing, begin, refuse, joined}
 use Rattle.line_ends.proofs.Splitting.{line-inside}

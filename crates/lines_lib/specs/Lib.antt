@@ -1,4 +1,3 @@
 -- The definitions of the crate `lines_lib`.
-pub mod Answers
 pub mod Lines
 pub mod Turns

@@ -10,7 +10,7 @@ use Rattle.extended.specs.declared.ExtendedDateTime.{ExtendedDateTime}
 use Rattle.primitive.specs.Answer.{if}
 use Rattle.rules.specs.Placed.{Placed, fine, refusal}
 use Rattle.reading.specs.Reading.{readText}
-use Rattle.lines_lib.specs.Answers.{refusalLine, lineAnswer}
+use Rattle.answers.specs.Answers.{refusalLine, lineAnswer}
 unfoldable pub use Rattle.line_ends.specs.Lines.{inFront, lines, lineLength, inFrontOfEnded, wholeLines, unlines, kept}
 
 -- the answers to texts, one behind the other

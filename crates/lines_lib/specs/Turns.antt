@@ -8,7 +8,7 @@ use lib.ListN.{length, take, drop}
 use Rattle.extended.specs.declared.ExtendedDateTime.{ExtendedDateTime}
 use Rattle.rules.specs.Placed.{fine, refusal}
 use Rattle.reading.specs.Reading.{readText}
-use Rattle.lines_lib.specs.Answers.{refusalLine}
+use Rattle.answers.specs.Answers.{refusalLine}
 use Rattle.lines_lib.specs.Lines.{lineLength, answers, answered, unlines, wanting, epoch}
 
 -- what a turn prints, what it leaves, and whether it stopped for want of room

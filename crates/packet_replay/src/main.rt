@@ -83,7 +83,7 @@ fn take_byte(byte: u8, mut at: Standing, packet: &mut [u8]) -> Standing {
 
 // What is written for a packet.
 fn reply(packet: &[u8], output: &mut [u8]) {
-    let n = lines_lib::put_first(packet::read_packet(packet, base()), output);
+    let n = answers::put_first(packet::read_packet(packet, base()), output);
     io::write_all(1, &output[0..n]);
 }
 

@@ -1,9 +1,9 @@
--- `lines_lib::put_answer` meets its contract, by the two cases of what was built. Assumes nothing.
-use Rattle.lines_lib.specs.Answers.{lineAnswer}
+-- `answers::put_answer` meets its contract, by the two cases of what was built. Assumes nothing.
+use Rattle.answers.specs.Answers.{lineAnswer}
 use borrow.Author.Needs.{needs}
-use Rattle.lines_lib.proofs.Putting.{answer-record, answer-refusal}
-use Rattle.lines_lib.proofs.put_answer.Statement.{statement}
-use Rattle.lines_lib.proofs.put_answer.Tie as tie
+use Rattle.answers.proofs.Putting.{answer-record, answer-refusal}
+use Rattle.answers.proofs.put_answer.Statement.{statement}
+use Rattle.answers.proofs.put_answer.Tie as tie
 
 enum-known-built : tie.Need-enum-known-built
 enum-known-built c = search needs

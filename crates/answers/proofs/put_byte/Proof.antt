@@ -1,9 +1,9 @@
--- `lines_lib::put_byte` meets its contract. Assumes nothing.
-use Rattle.lines_lib.proofs.Putting.{byte-put}
+-- `answers::put_byte` meets its contract. Assumes nothing.
+use Rattle.answers.proofs.Putting.{byte-put}
 use mathlib.Core.Path.{refl}
 use borrow.Author.Needs.{needs}
-use Rattle.lines_lib.proofs.put_byte.Statement.{statement}
-use Rattle.lines_lib.proofs.put_byte.Tie as tie
+use Rattle.answers.proofs.put_byte.Statement.{statement}
+use Rattle.answers.proofs.put_byte.Tie as tie
 
 slice-write-out : tie.Need-slice-write-out
 slice-write-out c = search needs

@@ -1,4 +1,4 @@
--- `lines_lib::put_decimal` meets its contract: the loop's invariant is that the digits still to be written, put in, give the row that is
+-- `answers::put_decimal` meets its contract: the loop's invariant is that the digits still to be written, put in, give the row that is
 -- wanted. Assumes nothing.
 use native.Mathlib.Omega.{arith}
 use borrow.Author.Needs.{needs}
@@ -8,9 +8,9 @@ use lib.ListN.{length}
 use Rattle.writer.specs.Writer.{width, digits}
 use Rattle.writer.proofs.Digits.{digits-length}
 use Rattle.writer.proofs.Filling.{filled, filling, filled-next, filled-done}
-use Rattle.lines_lib.proofs.Putting.{digits-put}
-use Rattle.lines_lib.proofs.put_decimal.Statement.{statement}
-use Rattle.lines_lib.proofs.put_decimal.Tie as tie
+use Rattle.answers.proofs.Putting.{digits-put}
+use Rattle.answers.proofs.put_decimal.Statement.{statement}
+use Rattle.answers.proofs.put_decimal.Tie as tie
 
 abbrev Inv-loop : tie.InvT-loop
 Inv-loop number out₀ at count i₀ left₀ out i left =

@@ -1,8 +1,8 @@
--- `lines_lib::put_record` meets its contract: a refusal covers the two bytes in front. Assumes nothing.
-use Rattle.lines_lib.proofs.Putting.{record-refused, record-written}
+-- `answers::put_record` meets its contract: a refusal covers the two bytes in front. Assumes nothing.
+use Rattle.answers.proofs.Putting.{record-refused, record-written}
 use borrow.Author.Needs.{needs}
-use Rattle.lines_lib.proofs.put_record.Statement.{statement}
-use Rattle.lines_lib.proofs.put_record.Tie as tie
+use Rattle.answers.proofs.put_record.Statement.{statement}
+use Rattle.answers.proofs.put_record.Tie as tie
 
 put-byte-requires : tie.Need-put-byte-requires
 put-byte-requires c κs = search needs

@@ -1,10 +1,10 @@
--- `lines_lib::put_text` meets its contract: the room is 41 bytes. Assumes nothing.
+-- `answers::put_text` meets its contract: the room is 41 bytes. Assumes nothing.
 use borrow.Author.Needs.{needs}
 use Prim.Native.Nat.{_≤_}
 use lib.ListN.{length}
-use Rattle.lines_lib.proofs.Part.{text-number, text-put}
-use Rattle.lines_lib.proofs.put_text.Statement.{statement}
-use Rattle.lines_lib.proofs.put_text.Tie as tie
+use Rattle.answers.proofs.Part.{text-number, text-put}
+use Rattle.answers.proofs.put_text.Statement.{statement}
+use Rattle.answers.proofs.put_text.Tie as tie
 
 sub-write : tie.Need-sub-write
 sub-write c = search needs

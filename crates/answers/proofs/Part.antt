@@ -13,8 +13,8 @@ use Rattle.extended.specs.Extended.{test}
 use Rattle.extended.specs.declared.ExtendedDateTime.{ExtendedDateTime}
 use Rattle.writer.specs.Writer.{textOf, wholeMinutes, written, bytesOf, writtenAnswer, over}
 use Rattle.writer.specs.declared.Written.{Written}
-use Rattle.lines_lib.specs.Answers.{Put}
-use Rattle.lines_lib.proofs.Putting.{part-put}
+use Rattle.answers.specs.Answers.{Put}
+use Rattle.answers.proofs.Putting.{part-put}
 
 fit : (t : Outcome (Unit {0})) (w : Bool) (x : List ℕ) (n : ℕ) (l : Bool) → leb (length x) n ≡ l → length (bytesOf (t >> (check w 20 >> (check l 19 >> accepted x)))) ≤ n
 fit (refused k) w x n l e = omega arith

@@ -1,8 +1,8 @@
--- `lines_lib::put_refusal` meets its contract: its four steps are one. Assumes nothing.
+-- `answers::put_refusal` meets its contract: its four steps are one. Assumes nothing.
 use borrow.Author.Needs.{needs}
-use Rattle.lines_lib.proofs.Putting.{refusal-put}
-use Rattle.lines_lib.proofs.put_refusal.Statement.{statement}
-use Rattle.lines_lib.proofs.put_refusal.Tie as tie
+use Rattle.answers.proofs.Putting.{refusal-put}
+use Rattle.answers.proofs.put_refusal.Statement.{statement}
+use Rattle.answers.proofs.put_refusal.Tie as tie
 
 put-decimal-requires : tie.Need-put-decimal-requires
 put-decimal-requires c κs = search needs

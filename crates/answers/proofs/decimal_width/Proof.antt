@@ -1,13 +1,13 @@
--- `lines_lib::decimal_width` meets its contract: the digits that are counted and those that are left are all of them. Assumes nothing.
+-- `answers::decimal_width` meets its contract: the digits that are counted and those that are left are all of them. Assumes nothing.
 use native.Mathlib.Omega.{arith}
 use borrow.Author.Needs.{needs}
 use Prim.Native.Nat.{_+_, _<_}
 use mathlib.Core.Path.{_≡_}
 use Rattle.writer.specs.Writer.{width}
 use Rattle.writer.proofs.Digits.{width-some}
-use Rattle.lines_lib.proofs.Widths.{width-one, width-step, width-u64}
-use Rattle.lines_lib.proofs.decimal_width.Statement.{statement}
-use Rattle.lines_lib.proofs.decimal_width.Tie as tie
+use Rattle.answers.proofs.Widths.{width-one, width-step, width-u64}
+use Rattle.answers.proofs.decimal_width.Statement.{statement}
+use Rattle.answers.proofs.decimal_width.Tie as tie
 
 abbrev Inv-loop : tie.InvT-loop
 Inv-loop number count₀ left₀ count left = count + width left ≡ width number + 1

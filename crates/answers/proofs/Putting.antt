@@ -15,7 +15,7 @@ use Rattle.builder.specs.declared.Built.the-variants as done
 use Rattle.writer.specs.Writer.{fixed, width, digits, written, bytesOf}
 use Rattle.writer.proofs.Digits.{fixed-length, width-some}
 use Rattle.writer.proofs.Filling.{filled}
-use Rattle.lines_lib.specs.Answers.{refusalLine, writtenLine, lineAnswer, putAt, Put}
+use Rattle.answers.specs.Answers.{refusalLine, writtenLine, lineAnswer, putAt, Put}
 
 -- the digits of a number, filled in
 pub digits-put : (out : List ℕ) (at n : ℕ) → filled out at (width n) n ≡ putAt (digits n) at out

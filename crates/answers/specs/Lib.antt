@@ -1,0 +1,2 @@
+-- The definitions of the crate `answers`.
+pub mod Answers
