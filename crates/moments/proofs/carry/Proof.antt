@@ -1,4 +1,4 @@
--- `extended::carry` meets its contract, with and without the second that is carried. Assumes nothing.
+-- `moments::carry` meets its contract, with and without the second that is carried. Assumes nothing.
 use Prim.Native.Nat.{_-_}
 use mathlib.Core.Path.{_≡_, sym}
 use lib.IntN.{pos}

@@ -1,4 +1,4 @@
--- `extended::days_before_month` meets its contract: the months lie on a line. Assumes nothing.
+-- `moments::days_before_month` meets its contract: the months lie on a line. Assumes nothing.
 use Prim.Native.Nat.{_*_, _+_, _-_, _≤_}
 use mathlib.Core.Path.{_≡_}
 use mathlib.Core.Bool.{Bool, false, true}

@@ -1,4 +1,4 @@
--- `extended::days_from_civil` meets its contract: the days of a year that begins in March. Assumes nothing.
+-- `moments::days_from_civil` meets its contract: the days of a year that begins in March. Assumes nothing.
 use Prim.Native.Nat.{_*_, _+_, _<_, _≤_, ℕ}
 use mathlib.Core.Path.{_≡_, refl}
 use mathlib.Core.Bool.{Bool, false, true}

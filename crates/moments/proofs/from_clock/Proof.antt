@@ -1,4 +1,4 @@
--- `extended::from_clock` meets its contract: the date of the clock's day, and the parts of the day. Assumes nothing.
+-- `moments::from_clock` meets its contract: the date of the clock's day, and the parts of the day. Assumes nothing.
 use Prim.Native.Nat.{_/_, _≤_}
 use mathlib.Core.Path.{_≡_, ap}
 use native.Mathlib.Omega.{arith}

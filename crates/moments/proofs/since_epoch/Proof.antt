@@ -1,4 +1,4 @@
--- `extended::since_epoch` meets its contract: clock, offset and epoch are small enough that no difference leaves an i64. Assumes nothing.
+-- `moments::since_epoch` meets its contract: clock, offset and epoch are small enough that no difference leaves an i64. Assumes nothing.
 use Prim.Native.Nat.{_+_, _<_, ℕ}
 use mathlib.Core.Path.{_∙_, _≡_, ap₂}
 use native.Mathlib.Omega.{arith}

@@ -1,4 +1,4 @@
--- `extended::months_before` meets its contract: the months fit an i64. Assumes nothing.
+-- `sums::months_before` meets its contract: the months fit an i64. Assumes nothing.
 use native.Mathlib.Omega.{arith}
 use mir.Syntax.{w64}
 use mir.Facts.{toZ-pos}
