@@ -19,7 +19,6 @@ use rules::GivenZone;
 use rules::RelativePlace;
 use rules::Standing;
 use times::offset::Normalized;
-use times::time::Time;
 use times::time::TimeOffset;
 ghost use mathlib.Core.Path.{_≡_};
 ghost use Prim.Native.Nat.{min};

@@ -4,7 +4,7 @@
 // any numbers: a record that `new` refuses gets `new`'s number, and every refusal is a number of the
 // table of answers (9 to 18 here), given in the order of the tests.
 ghost use mathlib.Core.Path.{_≡_};
-ghost use Rattle.extended.specs.Outcome.{Outcome, number};
+ghost use Rattle.extended.specs.Outcome.{number};
 ghost use Rattle.extended.specs.Extended.{madeOf, make, blank, date, time, dateOf, timeOf, testDate, testTime, testOffset, test, testYear, accept, withDate, withTime, withOffset};
 pub use calendar::days_in_month;
 pub use calendar::is_leap_year;

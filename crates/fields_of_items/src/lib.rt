@@ -13,7 +13,7 @@ use times::offset::Offset;
 use times::time::Time;
 use times::time::TimeOffset;
 ghost use mathlib.Core.Path.{_≡_};
-ghost use Prim.Native.Nat.{_+_, _*_, _≤_};
+ghost use Prim.Native.Nat.{_+_, _≤_};
 ghost use Rattle.items.specs.declared.Item.the-variants as item;
 ghost use Rattle.builder.specs.Building.{dayIndex};
 ghost use Rattle.fields.specs.Fields.{unsigned, yearFlag, yearField, signFlag, offsetFlags, hoursField, minutesField, withDate, withTime, ofZone, counted, ofRelative, ofPure, fieldsOf, sameDate, sameTime, sameRest, sameLater, same};

@@ -12,7 +12,7 @@ use fields::Found;
 use relative::Relative;
 use rules::RelativePlace;
 ghost use mathlib.Core.Path.{_≡_};
-ghost use Prim.Native.Nat.{_<_, _≤_, _^_};
+ghost use Prim.Native.Nat.{_<_, _≤_};
 ghost use lib.ListN.{length};
 ghost use Rattle.primitive.specs.Text.{lowered};
 ghost use Rattle.extended.specs.Outcome.{number};

@@ -28,7 +28,7 @@ ghost use Rattle.extended.specs.Extended.{madeOf, accept};
 ghost use Rattle.builder.specs.Building.{builtOf, addRelative};
 ghost use Rattle.builder.proofs.DateAndTime.{offsetOr};
 ghost use Rattle.reading.specs.Reading.{asciiEnd, readText};
-ghost use Rattle.quick.specs.Days.{IsoDate, OtherDate};
+ghost use Rattle.quick.specs.Days.{OtherDate};
 ghost use Rattle.quick.specs.Clocks.{zoneOf, zoneSmall};
 ghost use Rattle.quick.specs.Shifts.{relativeOf};
 ghost use Rattle.quick.specs.Shapes.{Small, ShapeOf, SeparatorAt, atMidnight, recordOf, AtOnce};

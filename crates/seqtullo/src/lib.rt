@@ -3,7 +3,7 @@
 ghost use mathlib.Core.Path.{_≡_};
 ghost use lib.ListN.{length};
 ghost use Rattle.extended.specs.Calendar.{monthDays};
-ghost use Rattle.extended.specs.Extended.{madeOf, secondsOf, countOf, make, date, time, accept, fromUnixSeconds, unixSeconds, addDays, addHours, addMinutes, addSeconds, addYears, addMonths, weekdayMonday0, dayOfYear};
+ghost use Rattle.extended.specs.Extended.{madeOf, countOf, make, date, time, accept, fromUnixSeconds, unixSeconds, addDays, addHours, addMinutes, addSeconds, addYears, addMonths, weekdayMonday0, dayOfYear};
 ghost use Rattle.writer.specs.Writer.{written, bytesOf, writtenAnswer, over};
 ghost use Prim.Native.Nat.{_≤_};
 ghost use Rattle.rules.specs.Placed.{placeOf};
