@@ -7,7 +7,7 @@ use lib.ListN.{length, take, drop}
 use Rattle.extended.specs.Outcome.{Outcome, number}
 use Rattle.extended.specs.declared.ExtendedDateTime.{ExtendedDateTime}
 use Rattle.primitive.specs.Answer.{if}
-use Rattle.rules.specs.Placed.{Placed, fine, refusal}
+use Rattle.extended.specs.Placed.{Placed, fine, refusal}
 use Rattle.writer.specs.Writer.{digits, written, bytesOf}
 pub use Rattle.line_ends.specs.Put.{Put}
 unfoldable pub use Rattle.line_ends.specs.Put.{putAt}

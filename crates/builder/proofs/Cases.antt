@@ -29,8 +29,8 @@ use Rattle.items.specs.declared.Weekday.{Weekday}
 use Rattle.items.specs.declared.Pure.{Pure}
 use Rattle.items.specs.declared.Item.{Item}
 use Rattle.items.specs.declared.Item.the-variants as item
-use Rattle.rules.specs.Placed as placed
-use Rattle.rules.specs.Placed.{Placed, fine, refusal}
+use Rattle.extended.specs.Placed as placed
+use Rattle.extended.specs.Placed.{Placed, fine, refusal}
 use Rattle.rules.specs.Rules.{standingOf}
 use Rattle.rules.specs.declared.Standing.{Standing}
 use Rattle.rules.specs.declared.Standing.the-variants as standing

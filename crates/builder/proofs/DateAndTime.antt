@@ -21,7 +21,7 @@ use Rattle.relative.specs.declared.Relative.{Relative}
 use Rattle.items.specs.declared.Item.{Item}
 use Rattle.items.specs.declared.Item.the-variants as item
 use Rattle.items.specs.declared.Slot.{Slot}
-use Rattle.rules.specs.Placed.{fine, placed}
+use Rattle.extended.specs.Placed.{fine, placed}
 use Rattle.rules.specs.Rules.{needMidnight, setDate, setTime, setDateTime, setItem, gather, relatives}
 use Rattle.builder.specs.Building.{start, onDate, onOffset, onTime, onWeekday, addRelative, addRelatives, onZone, absolute, buildExtended, built, build}
 use Rattle.rules.specs.declared.DateTimeBuilder.{DateTimeBuilder}

@@ -9,7 +9,7 @@ use Rattle.extended.specs.Outcome.{Outcome, accepted, refused}
 use Rattle.extended.specs.declared.ExtendedDateTime.{ExtendedDateTime}
 use Rattle.primitive.specs.Answer.{if}
 use Rattle.items.specs.declared.Slot.{Slot}
-use Rattle.rules.specs.Placed.{Placed, fine, refusal, placed, placeOf, _>>=_, _>>_}
+use Rattle.extended.specs.Placed.{Placed, fine, refusal, placed, placeOf, _>>=_, _>>_}
 use Rattle.rules.specs.Rules.{empty, setItem, rulePlace, onward, gather, relatives}
 use Rattle.rules.specs.declared.DateTimeBuilder.{DateTimeBuilder}
 use Rattle.builder.specs.Building.{buildExtended, built, build}

@@ -21,8 +21,8 @@ use Rattle.items.specs.declared.Day.{Day}
 use Rattle.items.specs.declared.Day.the-variants as day
 use Rattle.items.specs.declared.Weekday.{Weekday}
 use Rattle.items.specs.declared.Slot.{Slot}
-use Rattle.rules.specs.Placed as placed
-use Rattle.rules.specs.Placed.{Placed, fine, refusal}
+use Rattle.extended.specs.Placed as placed
+use Rattle.extended.specs.Placed.{Placed, fine, refusal}
 use Rattle.rules.specs.Rules.{empty, needMidnight, gather, relatives}
 use Rattle.rules.specs.declared.GivenDate.{GivenDate}
 use Rattle.rules.specs.declared.GivenDate.the-variants as given-date

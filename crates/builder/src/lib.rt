@@ -24,7 +24,7 @@ ghost use mathlib.Core.Path.{_≡_};
 ghost use Prim.Native.Nat.{min};
 ghost use lib.ListN.{take};
 ghost use Rattle.extended.specs.Extended.{madeOf, accept};
-ghost use Rattle.rules.specs.Placed.{placed};
+ghost use Rattle.extended.specs.Placed.{placed};
 ghost use Rattle.rules.specs.Rules.{standingOf};
 ghost use Rattle.builder.specs.Building.{start, yearOr, onDate, onOffset, onTime, dayIndex, ahead, weeks, weekdaySum, delta, forwarded, onWeekday, addRelative, addRelatives, withZone, onZone, absolute, buildExtended, built, builtOf, daysOf};
 

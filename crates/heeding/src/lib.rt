@@ -22,7 +22,7 @@ ghost use mathlib.Core.List.{[], _∷_};
 ghost use Prim.Native.Nat.{_≤_};
 ghost use lib.ListN.{take};
 ghost use Rattle.primitive.specs.Text.{lowered};
-ghost use Rattle.rules.specs.Placed.{fine};
+ghost use Rattle.extended.specs.Placed.{fine};
 ghost use Rattle.rules.specs.Rules.{empty, setTime, setPureYear, setPureTime, setPure, setItem, rulePlace, onward, heed, relativeOf, pureYear, clock, setHour, setHourAndMinute, setOf, standingOf};
 
 // No item yet.

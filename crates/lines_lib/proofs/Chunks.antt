@@ -15,7 +15,7 @@ use Rattle.extended.specs.declared.ExtendedDateTime.{ExtendedDateTime}
 use Rattle.primitive.specs.Answer.{if}
 use Rattle.primitive.specs.Text.{lowered}
 use Rattle.primitive.proofs.Lowered.{length-lowered}
-use Rattle.rules.specs.Placed.{Placed, refusal, placed, _>>_}
+use Rattle.extended.specs.Placed.{Placed, refusal, placed, _>>_}
 use Rattle.reading.specs.Reading.{readLowered, readText}
 use Rattle.answers.specs.Answers.{lineAnswer}
 use Rattle.lines_lib.specs.Lines.{inFront, lines, lineLength, answers, answered, unlines, wanting, epoch, outputOf, output}

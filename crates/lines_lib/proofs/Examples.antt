@@ -8,7 +8,7 @@ use Rattle.primitive.specs.Text.{bytes}
 use Rattle.extended.specs.Calendar.{leap, monthDays}
 use Rattle.extended.specs.Extended.{make, date, time, testDate, testTime, testOffset, test}
 use Rattle.extended.specs.declared.ExtendedDateTime.{ExtendedDateTime}
-use Rattle.rules.specs.Placed.{fine, refusal}
+use Rattle.extended.specs.Placed.{fine, refusal}
 use Rattle.reading.specs.Reading.{readText}
 use Rattle.writer.specs.Writer.{fixed, widthUpTo, width, digits, padded, textOf, written}
 use Rattle.answers.specs.Answers.{refusalLine, writtenLine, lineAnswer}

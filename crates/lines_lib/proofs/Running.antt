@@ -11,7 +11,7 @@ use lib.ListN.{length, take, drop, length-append, length-drop, drop-of-length-le
 use lib.Seq.{take-append-seam, drop-length}
 use Rattle.extended.specs.declared.ExtendedDateTime.{ExtendedDateTime}
 use Rattle.extended.proofs.Counting.{and-left, and-right}
-use Rattle.rules.specs.Placed.{Placed, fine, refusal}
+use Rattle.extended.specs.Placed.{Placed, fine, refusal}
 use Rattle.reading.specs.Reading.{readText}
 use Rattle.answers.specs.Answers.{lineAnswer}
 use Rattle.lines_lib.specs.Lines.{lineLength, answers, answered, unlines, wanting, epoch, output}

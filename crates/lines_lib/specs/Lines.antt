@@ -8,7 +8,7 @@ use lib.IntN.{pos}
 use Rattle.extended.specs.Extended.{make, date, time}
 use Rattle.extended.specs.declared.ExtendedDateTime.{ExtendedDateTime}
 use Rattle.primitive.specs.Answer.{if}
-use Rattle.rules.specs.Placed.{Placed, fine, refusal}
+use Rattle.extended.specs.Placed.{Placed, fine, refusal}
 use Rattle.reading.specs.Reading.{readText}
 use Rattle.answers.specs.Answers.{refusalLine, lineAnswer}
 unfoldable pub use Rattle.line_ends.specs.Lines.{inFront, lines, lineLength, inFrontOfEnded, wholeLines, unlines, kept}

@@ -6,7 +6,7 @@ use mathlib.Core.Bool.{Bool, true, false}
 use mathlib.Core.List.{List, [], _∷_, _++_}
 use lib.ListN.{length, take, drop}
 use Rattle.extended.specs.declared.ExtendedDateTime.{ExtendedDateTime}
-use Rattle.rules.specs.Placed.{fine, refusal}
+use Rattle.extended.specs.Placed.{fine, refusal}
 use Rattle.reading.specs.Reading.{readText}
 use Rattle.answers.specs.Answers.{refusalLine}
 use Rattle.lines_lib.specs.Lines.{lineLength, answers, answered, unlines, wanting, epoch}

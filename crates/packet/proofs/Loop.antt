@@ -16,7 +16,7 @@ use Rattle.primitive.proofs.Forward.{run-le}
 use Rattle.primitive.proofs.Lowered.{length-lowered}
 use Rattle.items.specs.declared.Item.{Item}
 use Rattle.items.specs.declared.Slot.{Slot}
-use Rattle.rules.specs.Placed.{Placed, fine, refusal, placed, _>>=_, _>>_}
+use Rattle.extended.specs.Placed.{Placed, fine, refusal, placed, _>>=_, _>>_}
 use Rattle.rules.specs.Rules.{empty, gather, heed, relativeOf, relatives, standingOf}
 use Rattle.rules.specs.declared.DateTimeBuilder.{DateTimeBuilder}
 use Rattle.rules.specs.declared.RelativePlace.{RelativePlace}

@@ -11,7 +11,7 @@ use Rattle.extended.specs.Extended.{test}
 use Rattle.extended.specs.declared.ExtendedDateTime.{ExtendedDateTime}
 use Rattle.items.specs.declared.Item.{Item}
 use Rattle.items.specs.declared.Slot.{Slot}
-use Rattle.rules.specs.Placed.{Placed, fine, refusal, placed, placeOf, _>>=_, _>>_}
+use Rattle.extended.specs.Placed.{Placed, fine, refusal, placed, placeOf, _>>=_, _>>_}
 use Rattle.builder.specs.Building.{build}
 use Rattle.builder.proofs.Places.{first-step, at-place, build-place}
 use Rattle.fields.specs.Fields.{little, digitsUsed}

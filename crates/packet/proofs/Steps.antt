@@ -16,7 +16,7 @@ use Rattle.extended.specs.declared.ExtendedDateTime.{ExtendedDateTime}
 use Rattle.extended.proofs.Outcomes.{refused-by, passed}
 use Rattle.extended.proofs.Records.{record-proper}
 use Rattle.items.specs.declared.Item.{Item}
-use Rattle.rules.specs.Placed.{Placed, refusal}
+use Rattle.extended.specs.Placed.{Placed, refusal}
 use Rattle.fields.specs.Fields.{little, fieldsAt, unpacked, digitsUsed, foundOf}
 use Rattle.fields.specs.declared.Fields.{Fields}
 use Rattle.fields.specs.declared.Found.{Found}

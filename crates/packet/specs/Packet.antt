@@ -11,7 +11,7 @@ use Rattle.extended.specs.declared.ExtendedDateTime.{ExtendedDateTime}
 use Rattle.primitive.specs.Text.{lowered, digit, past}
 use Rattle.items.specs.declared.Item.{Item}
 use Rattle.items.specs.declared.Slot.{Slot}
-use Rattle.rules.specs.Placed.{Placed, fine, placed, _>>=_, _>>_}
+use Rattle.extended.specs.Placed.{Placed, fine, placed, _>>=_, _>>_}
 use Rattle.builder.specs.Building.{build}
 use Rattle.fields.specs.Fields.{little, fieldsAt, unpacked, digitsUsed}
 

@@ -13,8 +13,8 @@ use Rattle.extended.specs.Outcome.{Outcome, accepted, refused, number, check}
 use Rattle.primitive.proofs.Rows.{halves}
 use Rattle.items.specs.declared.Item.{Item}
 use Rattle.items.specs.declared.Slot.{Slot}
-use Rattle.rules.specs.Placed as placing
-use Rattle.rules.specs.Placed.{Placed, fine, refusal, _>>=_, _>>_}
+use Rattle.extended.specs.Placed as placing
+use Rattle.extended.specs.Placed.{Placed, fine, refusal, _>>=_, _>>_}
 use Rattle.fields.specs.Fields.{little, fieldsFrom, fieldsAt, itemOf, fieldsOf, inRange, sameDate, sameTime, sameRest, sameLater, same, fitting, unpacked, digitsUsed}
 use Rattle.fields.specs.declared.Fields.{Fields}
 use Rattle.packet.specs.Packet.{count, digitsPlace, header, digits, digitsStand, itemAt, itemsFrom, packetItems}

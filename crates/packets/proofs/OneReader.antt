@@ -10,7 +10,7 @@ use Rattle.extended.specs.Extended.{test}
 use Rattle.extended.specs.declared.ExtendedDateTime.{ExtendedDateTime}
 use Rattle.primitive.specs.Text.{lowered}
 use Rattle.items.specs.Items.{parse-items}
-use Rattle.rules.specs.Placed.{placed, _>>_}
+use Rattle.extended.specs.Placed.{placed, _>>_}
 use Rattle.builder.specs.Building.{build}
 use Rattle.packet.specs.Packet.{readPacket}
 use Rattle.reading.specs.Reading.{asciiEnd, itemsOf, buildText, readLowered, readText}

@@ -17,8 +17,8 @@ use Rattle.primitive.proofs.Rows.{all, halves}
 use Rattle.items.specs.declared.Item.{Item}
 use Rattle.items.specs.declared.Item.the-variants as item
 use Rattle.items.specs.declared.Slot.{Slot}
-use Rattle.rules.specs.Placed as placing
-use Rattle.rules.specs.Placed.{Placed, fine, _>>=_, _>>_}
+use Rattle.extended.specs.Placed as placing
+use Rattle.extended.specs.Placed.{Placed, fine, _>>=_, _>>_}
 use Rattle.builder.specs.Building.{build}
 use Rattle.fields.specs.Fields.{little, fieldsFrom, fieldsAt, fieldsOf, unpacked, pureInRange, inRange, digitsUsed}
 use Rattle.fields.specs.declared.Fields.{Fields}

@@ -24,7 +24,7 @@ use Rattle.relative.specs.declared.Relative.{Relative}
 use Rattle.items.specs.Items.{ended, parse-items}
 use Rattle.items.specs.declared.Item.the-variants as item
 use Rattle.items.specs.declared.Slot.{Slot}
-use Rattle.rules.specs.Placed.{fine, placed}
+use Rattle.extended.specs.Placed.{fine, placed}
 use Rattle.builder.specs.Building.{addRelative, build}
 use Rattle.reading.specs.Reading.{ascii, asciiEnd, itemsOf, buildText, readText}
 use Rattle.reading.proofs.Steps.{ascii-low, all-read}

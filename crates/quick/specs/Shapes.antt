@@ -17,7 +17,7 @@ use Rattle.items.specs.declared.Item.{Item}
 use Rattle.items.specs.declared.Item.the-variants as item
 use Rattle.items.specs.declared.Slot.{Slot}
 use Rattle.forms.proofs.Combined.{separatorOf}
-use Rattle.rules.specs.Placed.{fine}
+use Rattle.extended.specs.Placed.{fine}
 use Rattle.builder.proofs.DateAndTime.{offsetOr}
 use Rattle.reading.specs.Reading.{buildText}
 use Rattle.quick.specs.Days.{dayOf}

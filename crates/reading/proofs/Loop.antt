@@ -20,7 +20,7 @@ use Rattle.items.specs.declared.Item.{Item}
 use Rattle.items.specs.declared.Slot.{Slot}
 use Rattle.items.specs.declared.ReadItem.{ReadItem}
 use Rattle.items.specs.declared.ReadItem.the-variants as got
-use Rattle.rules.specs.Placed.{Placed, fine, refusal, _>>=_}
+use Rattle.extended.specs.Placed.{Placed, fine, refusal, _>>=_}
 use Rattle.rules.specs.Rules.{empty, gather, heed, relativeOf, relatives, standingOf}
 use Rattle.rules.specs.declared.DateTimeBuilder.{DateTimeBuilder}
 use Rattle.rules.specs.declared.RelativePlace.{RelativePlace}

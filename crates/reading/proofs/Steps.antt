@@ -16,7 +16,7 @@ use Rattle.extended.specs.Extended.{test}
 use Rattle.extended.specs.declared.ExtendedDateTime.{ExtendedDateTime}
 use Rattle.extended.proofs.Outcomes.{refused-by, passed}
 use Rattle.extended.proofs.Records.{record-proper}
-use Rattle.rules.specs.Placed.{Placed, refusal}
+use Rattle.extended.specs.Placed.{Placed, refusal}
 use Rattle.reading.specs.Reading.{ascii, asciiEnd, buildText, readLowered, readText}
 
 -- ---- bytes below 128

@@ -11,7 +11,7 @@ use Rattle.primitive.specs.Answer.{if}
 use Rattle.primitive.specs.Text.{lowered, past}
 use Rattle.items.specs.Items.{Parsed, parse-items}
 use Rattle.items.specs.declared.Slot.{Slot}
-use Rattle.rules.specs.Placed.{Placed, fine, refusal, placed, _>>=_, _>>_}
+use Rattle.extended.specs.Placed.{Placed, fine, refusal, placed, _>>=_, _>>_}
 use Rattle.builder.specs.Building.{build}
 
 -- "Text has 0 to 4096 bytes, each below 128, read as lower case"

@@ -16,8 +16,8 @@ use Rattle.primitive.specs.Answer.{if}
 use Rattle.relative.specs.declared.Relative.{Relative}
 use Rattle.relative.specs.declared.Relative.the-variants as relative
 use Rattle.items.specs.declared.Slot.{Slot}
-use Rattle.rules.specs.Placed as placed
-use Rattle.rules.specs.Placed.{Placed, fine, refusal}
+use Rattle.extended.specs.Placed as placed
+use Rattle.extended.specs.Placed.{Placed, fine, refusal}
 use Rattle.rules.specs.Rules.{empty, needMidnight, gather, relatives}
 use Rattle.builder.specs.Building.{start, onDate, onOffset, onTime, delta, forwarded, onWeekday, addRelative, addRelatives, withZone, onZone, absolute, none, buildExtended, built, build}
 use Rattle.rules.specs.declared.GivenDate.{GivenDate}

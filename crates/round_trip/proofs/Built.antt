@@ -13,7 +13,7 @@ use Rattle.relative.specs.declared.Relative.the-variants.{Seconds}
 use Rattle.items.specs.declared.Item.{Item}
 use Rattle.items.specs.declared.Item.the-variants as item
 use Rattle.items.specs.declared.Slot.{Slot}
-use Rattle.rules.specs.Placed.{fine, placed}
+use Rattle.extended.specs.Placed.{fine, placed}
 use Rattle.builder.specs.Building.{addRelative, build}
 use Rattle.builder.proofs.DateAndTime.{combined-built, combined-moved}
 use Rattle.writer.specs.Writer.{wholeMinutes}

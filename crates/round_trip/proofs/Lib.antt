@@ -4,3 +4,4 @@ pub mod Texts
 pub mod Places
 pub mod Refusals
 pub mod Accepted
+pub mod Theorems

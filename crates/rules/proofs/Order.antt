@@ -9,8 +9,8 @@ use lib.ListN.{length, take, set}
 use lib.Seq.{take-set-le, take-suc-set}
 use Rattle.extended.specs.Outcome.{Outcome, accepted, refused}
 use Rattle.items.specs.declared.Slot.{Slot}
-use Rattle.rules.specs.Placed as placed
-use Rattle.rules.specs.Placed.{Placed, fine, refusal}
+use Rattle.extended.specs.Placed as placed
+use Rattle.extended.specs.Placed.{Placed, fine, refusal}
 use Rattle.rules.specs.Rules.{empty, setItem, rulePlace, onward, gather, heed, relativeOf, relatives}
 use Rattle.rules.specs.declared.DateTimeBuilder.{DateTimeBuilder}
 use Rattle.rules.specs.declared.RelativePlace.{RelativePlace}

@@ -1,3 +1,2 @@
--- The definitions of the crate `rules`, in reading order.
-pub mod Placed
+-- The definitions of the crate `rules`.
 pub mod Rules

@@ -23,8 +23,8 @@ use Rattle.items.specs.declared.Pure.{Pure}
 use Rattle.items.specs.declared.Item.{Item}
 use Rattle.items.specs.declared.Item.the-variants as item
 use Rattle.items.specs.declared.Slot.{Slot}
-use Rattle.rules.specs.Placed as placed
-use Rattle.rules.specs.Placed.{Placed, fine, refusal}
+use Rattle.extended.specs.Placed as placed
+use Rattle.extended.specs.Placed.{Placed, fine, refusal}
 use Rattle.rules.specs.declared.GivenDate.{GivenDate}
 use Rattle.rules.specs.declared.GivenDate.the-variants as date
 use Rattle.rules.specs.declared.GivenTime.{GivenTime}

@@ -3,76 +3,23 @@
 ghost use mathlib.Core.Path.{_≡_};
 ghost use lib.ListN.{length};
 ghost use Rattle.extended.specs.Calendar.{monthDays};
-ghost use Rattle.extended.specs.Extended.{madeOf, countOf, make, date, time, accept, fromUnixSeconds, unixSeconds, addDays, addHours, addMinutes, addSeconds, addYears, addMonths, weekdayMonday0, dayOfYear};
+ghost use Rattle.extended.specs.Extended.{make, date, time, accept, fromUnixSeconds, unixSeconds, addDays, addHours, addMinutes, addSeconds, addYears, addMonths, weekdayMonday0, dayOfYear};
 ghost use Rattle.writer.specs.Writer.{written, bytesOf, writtenAnswer, over};
 ghost use Prim.Native.Nat.{_≤_};
-ghost use Rattle.rules.specs.Placed.{placeOf};
+ghost use Rattle.extended.specs.Placed.{placeOf};
 ghost use Rattle.builder.specs.Building.{builtOf};
 ghost use Rattle.reading.specs.Reading.{readText};
 ghost use Rattle.packet.specs.Packet.{readPacket};
-ghost use Rattle.seqtullo.specs.Hosts.{recordAnswer, momentAnswer, numberAnswer, placedAnswer};
+ghost use Rattle.hosts.specs.Hosts.{recordAnswer, momentAnswer, numberAnswer, placedAnswer};
 use builder::Built;
 use extended::DateParts;
-use extended::DayCount;
 use extended::ExtendedDateTime;
-use extended::Made;
 use extended::TimeParts;
-use extended::UnixSeconds;
+use hosts::Answer;
+use hosts::Moment;
+use hosts::Number;
+use hosts::Record;
 use writer::Written;
-
-pub type Record = ExtendedDateTime;
-
-// A record under number 0, or a refusal with its number, its place and the blank record.
-#[repr(C)]
-pub struct Answer {
-    pub number: u32,
-    pub place: u32,
-    pub record: Record,
-}
-
-#[repr(C)]
-pub struct Moment {
-    pub number: u32,
-    pub seconds: i64,
-}
-
-#[repr(C)]
-pub struct Number {
-    pub number: u32,
-    pub value: u32,
-}
-
-fn record_answer(made: Made) -> Answer
-    ensures { λ r. ⌜ r ≡ recordAnswer (madeOf made) ⌝ }
-{
-    match made {
-        Made::Record(record) => Answer {
-            number: 0,
-            place: 0,
-            record: record,
-        },
-        Made::Refused(number) => Answer {
-            number: number,
-            place: 0,
-            record: ExtendedDateTime::blank(),
-        },
-    }
-}
-
-fn number_answer(count: DayCount) -> Number
-    ensures { λ r. ⌜ r ≡ numberAnswer (countOf count) ⌝ }
-{
-    match count {
-        DayCount::Days(days) => Number {
-            number: 0,
-            value: days,
-        },
-        DayCount::Refused(number) => Number {
-            number: number,
-            value: 0,
-        },
-    }
-}
 
 #[no_mangle]
 pub extern "C" fn seqtullo_new(
@@ -94,7 +41,7 @@ pub extern "C" fn seqtullo_new(
         second,
         nanosecond,
     };
-    record_answer(ExtendedDateTime::new(date, time, offset_seconds))
+    hosts::record_answer(ExtendedDateTime::new(date, time, offset_seconds))
 }
 
 #[no_mangle]
@@ -105,66 +52,56 @@ pub extern "C" fn seqtullo_from_unix_seconds(
 ) -> Answer
     ensures { λ r. ⌜ r ≡ recordAnswer (fromUnixSeconds «unix_seconds» nanosecond «offset_seconds») ⌝ }
 {
-    record_answer(moments::from_unix_seconds(unix_seconds, nanosecond, offset_seconds))
+    hosts::record_answer(moments::from_unix_seconds(unix_seconds, nanosecond, offset_seconds))
 }
 
 #[no_mangle]
 pub extern "C" fn seqtullo_unix_seconds(record: Record) -> Moment
     ensures { λ r. ⌜ r ≡ momentAnswer (unixSeconds «record») ⌝ }
 {
-    let moment = moments::unix_seconds(record);
-    match moment {
-        UnixSeconds::At(seconds) => Moment {
-            number: 0,
-            seconds: seconds,
-        },
-        UnixSeconds::Refused(number) => Moment {
-            number: number,
-            seconds: 0,
-        },
-    }
+    hosts::moment_answer(moments::unix_seconds(record))
 }
 
 #[no_mangle]
 pub extern "C" fn seqtullo_add_days(record: Record, days: i64) -> Answer
     ensures { λ r. ⌜ r ≡ recordAnswer (addDays «record» days) ⌝ }
 {
-    record_answer(sums::checked_add_days(record, days))
+    hosts::record_answer(sums::checked_add_days(record, days))
 }
 
 #[no_mangle]
 pub extern "C" fn seqtullo_add_hours(record: Record, hours: i64) -> Answer
     ensures { λ r. ⌜ r ≡ recordAnswer (addHours «record» hours) ⌝ }
 {
-    record_answer(sums::checked_add_hours(record, hours))
+    hosts::record_answer(sums::checked_add_hours(record, hours))
 }
 
 #[no_mangle]
 pub extern "C" fn seqtullo_add_minutes(record: Record, minutes: i64) -> Answer
     ensures { λ r. ⌜ r ≡ recordAnswer (addMinutes «record» minutes) ⌝ }
 {
-    record_answer(sums::checked_add_minutes(record, minutes))
+    hosts::record_answer(sums::checked_add_minutes(record, minutes))
 }
 
 #[no_mangle]
 pub extern "C" fn seqtullo_add_seconds(record: Record, seconds: i64, nanoseconds: u32) -> Answer
     ensures { λ r. ⌜ r ≡ recordAnswer (addSeconds «record» seconds nanoseconds) ⌝ }
 {
-    record_answer(moments::checked_add_seconds(record, seconds, nanoseconds))
+    hosts::record_answer(moments::checked_add_seconds(record, seconds, nanoseconds))
 }
 
 #[no_mangle]
 pub extern "C" fn seqtullo_add_years(record: Record, years: i32) -> Answer
     ensures { λ r. ⌜ r ≡ recordAnswer (addYears «record» years) ⌝ }
 {
-    record_answer(sums::checked_add_years(record, years))
+    hosts::record_answer(sums::checked_add_years(record, years))
 }
 
 #[no_mangle]
 pub extern "C" fn seqtullo_add_months(record: Record, months: i32) -> Answer
     ensures { λ r. ⌜ r ≡ recordAnswer (addMonths «record» months) ⌝ }
 {
-    record_answer(sums::checked_add_months(record, months))
+    hosts::record_answer(sums::checked_add_months(record, months))
 }
 
 // 0 for Monday to 6 for Sunday.
@@ -172,14 +109,14 @@ pub extern "C" fn seqtullo_add_months(record: Record, months: i32) -> Answer
 pub extern "C" fn seqtullo_weekday(record: Record) -> Number
     ensures { λ r. ⌜ r ≡ numberAnswer (weekdayMonday0 «record») ⌝ }
 {
-    number_answer(moments::weekday_monday0(record))
+    hosts::number_answer(moments::weekday_monday0(record))
 }
 
 #[no_mangle]
 pub extern "C" fn seqtullo_day_of_year(record: Record) -> Number
     ensures { λ r. ⌜ r ≡ numberAnswer (dayOfYear «record») ⌝ }
 {
-    number_answer(moments::day_of_year(record))
+    hosts::number_answer(moments::day_of_year(record))
 }
 
 #[no_mangle]

@@ -3,10 +3,10 @@ use native.Mathlib.Omega.{arith}
 use Prim.Native.Nat.{_≤_}
 use mathlib.Core.Path.{ap, sym}
 use borrow.Author.Needs.{needs}
-use Rattle.rules.specs.Placed.{placeOf}
+use Rattle.extended.specs.Placed.{placeOf}
 use Rattle.builder.specs.Building.{builtOf}
 use Rattle.builder.specs.declared.Built.{Built}
-use Rattle.seqtullo.specs.Hosts.{placedAnswer}
+use Rattle.hosts.specs.Hosts.{placedAnswer}
 use Rattle.seqtullo.proofs.placed_answer.Statement.{statement}
 use Rattle.seqtullo.proofs.placed_answer.Tie as tie
 

@@ -1,6 +1,6 @@
 -- `seqtullo::seqtullo_day_of_year` meets its contract, by that of `day_of_year`. Assumes nothing.
 use mathlib.Core.Path.{_∙_, ap}
-use Rattle.seqtullo.specs.Hosts.{numberAnswer}
+use Rattle.hosts.specs.Hosts.{numberAnswer}
 use Rattle.seqtullo.proofs.seqtullo_day_of_year.Statement.{statement}
 use Rattle.seqtullo.proofs.seqtullo_day_of_year.Tie as tie
 

@@ -1,7 +1,7 @@
 -- `seqtullo::seqtullo_from_unix_seconds` meets its contract, by that of `from_unix_seconds`. Assumes nothing.
 use mathlib.Core.Path.{_∙_, ap}
 use mir.Facts.{toZ-ofZ}
-use Rattle.seqtullo.specs.Hosts.{recordAnswer}
+use Rattle.hosts.specs.Hosts.{recordAnswer}
 use Rattle.seqtullo.proofs.seqtullo_from_unix_seconds.Statement.{statement}
 use Rattle.seqtullo.proofs.seqtullo_from_unix_seconds.Tie as tie
 

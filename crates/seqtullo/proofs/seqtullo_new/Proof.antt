@@ -1,7 +1,7 @@
 -- `seqtullo::seqtullo_new` meets its contract, by that of `new`. Assumes nothing.
 use mathlib.Core.Path.{_∙_, ap}
 use mir.Facts.{toZ-ofZ}
-use Rattle.seqtullo.specs.Hosts.{recordAnswer}
+use Rattle.hosts.specs.Hosts.{recordAnswer}
 use Rattle.seqtullo.proofs.seqtullo_new.Statement.{statement}
 use Rattle.seqtullo.proofs.seqtullo_new.Tie as tie
 

@@ -2,10 +2,10 @@
 use mathlib.Core.Path.{_≡_, ap, _∙_}
 use native.Mathlib.Omega.{arith}
 use Prim.Native.Nat.{_≤_}
-use Rattle.rules.specs.Placed.{placeOf}
+use Rattle.extended.specs.Placed.{placeOf}
 use Rattle.packet.specs.Packet.{readPacket}
 use Rattle.packet.proofs.Places.{place-within}
-use Rattle.seqtullo.specs.Hosts.{placedAnswer}
+use Rattle.hosts.specs.Hosts.{placedAnswer}
 use Rattle.seqtullo.proofs.seqtullo_read_packet.Statement.{statement}
 use Rattle.seqtullo.proofs.seqtullo_read_packet.Tie as tie
 

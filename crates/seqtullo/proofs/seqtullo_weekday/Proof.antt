@@ -1,6 +1,6 @@
 -- `seqtullo::seqtullo_weekday` meets its contract, by that of `weekday_monday0`. Assumes nothing.
 use mathlib.Core.Path.{_∙_, ap}
-use Rattle.seqtullo.specs.Hosts.{numberAnswer}
+use Rattle.hosts.specs.Hosts.{numberAnswer}
 use Rattle.seqtullo.proofs.seqtullo_weekday.Statement.{statement}
 use Rattle.seqtullo.proofs.seqtullo_weekday.Tie as tie
 

@@ -1,11 +1,11 @@
--- `seqtullo::number_answer` meets its contract, by the cases of `DayCount`. Assumes nothing.
+-- `hosts::number_answer` meets its contract, by the cases of `DayCount`. Assumes nothing.
 use mathlib.Core.Path.{ap, sym}
 use borrow.Author.Needs.{needs}
 use Rattle.extended.specs.Extended.{countOf}
-use Rattle.seqtullo.specs.Hosts.{numberAnswer}
+use Rattle.hosts.specs.Hosts.{numberAnswer}
 use Rattle.extended.specs.declared.DayCount.{DayCount}
-use Rattle.seqtullo.proofs.number_answer.Statement.{statement}
-use Rattle.seqtullo.proofs.number_answer.Tie as tie
+use Rattle.hosts.proofs.number_answer.Statement.{statement}
+use Rattle.hosts.proofs.number_answer.Tie as tie
 
 enum-known-count : tie.Need-enum-known-count
 enum-known-count c = search needs

@@ -18,16 +18,16 @@ use Rattle.extended.proofs.Records.{facts}
 use Rattle.extended.proofs.Theorems.{Recorded, from-unix-seconds-exact, seconds-exact, seconds-refused}
 use Rattle.primitive.specs.Ordinal.{signed}
 use Rattle.primitive.specs.Text.{bytes}
-use Rattle.rules.specs.Placed.{placed}
+use Rattle.extended.specs.Placed.{placed}
 use Rattle.writer.specs.Writer.{digits, signOf, wholeMinutes, textOf, written, bytesOf, writtenAnswer, over}
 use Rattle.writer.specs.declared.Written.{Written}
 use Rattle.writer.proofs.Texts.{text-long}
 use Rattle.writer.proofs.Theorems.{one-owner}
 use Rattle.reading.specs.Reading.{readText}
 use Rattle.round_trip.proofs.Texts.{shift, read-alone, read-moved}
 use Rattle.round_trip.proofs.Refusals.{seconds-numbered}
-use Rattle.seqtullo.specs.Hosts.{placedAnswer}
-use Rattle.seqtullo.specs.declared.Answer.{Answer}
+use Rattle.hosts.specs.Hosts.{placedAnswer}
+use Rattle.hosts.specs.declared.Answer.{Answer}
 
 -- `seqtullo_write` was called with r and the bytes `out`, answered w and left the bytes `left`
 pub record Wrote (r : ExtendedDateTime) (out : List ℕ) (w : Written) (left : List ℕ) : Type 0 where

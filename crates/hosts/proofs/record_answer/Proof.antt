@@ -1,11 +1,11 @@
--- `seqtullo::record_answer` meets its contract, by the cases of `Made`. Assumes nothing.
+-- `hosts::record_answer` meets its contract, by the cases of `Made`. Assumes nothing.
 use mathlib.Core.Path.{ap, sym}
 use borrow.Author.Needs.{needs}
 use Rattle.extended.specs.Extended.{madeOf}
-use Rattle.seqtullo.specs.Hosts.{recordAnswer}
+use Rattle.hosts.specs.Hosts.{recordAnswer}
 use Rattle.extended.specs.declared.Made.{Made}
-use Rattle.seqtullo.proofs.record_answer.Statement.{statement}
-use Rattle.seqtullo.proofs.record_answer.Tie as tie
+use Rattle.hosts.proofs.record_answer.Statement.{statement}
+use Rattle.hosts.proofs.record_answer.Tie as tie
 
 enum-known-made : tie.Need-enum-known-made
 enum-known-made c = search needs

@@ -4,11 +4,11 @@ use lib.IntN.{ℤ, pos}
 use Rattle.extended.specs.Outcome.{Outcome, number, valueOr}
 use Rattle.extended.specs.Extended.{blank}
 use Rattle.extended.specs.declared.ExtendedDateTime.{ExtendedDateTime}
-use Rattle.rules.specs.Placed as placed
-use Rattle.rules.specs.Placed.{Placed, numberOf, placeOf}
-use Rattle.seqtullo.specs.declared.Answer.{Answer}
-use Rattle.seqtullo.specs.declared.Moment.{Moment}
-use Rattle.seqtullo.specs.declared.Number.{Number}
+use Rattle.extended.specs.Placed as placed
+use Rattle.extended.specs.Placed.{Placed, numberOf, placeOf}
+use Rattle.hosts.specs.declared.Answer.{Answer}
+use Rattle.hosts.specs.declared.Moment.{Moment}
+use Rattle.hosts.specs.declared.Number.{Number}
 
 -- "0 is a record. Else the record is blank: eight zeros"; a number from 9 to 18 has place 0
 unfoldable pub recordAnswer : Outcome ExtendedDateTime → Answer
