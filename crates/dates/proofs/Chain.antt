@@ -61,10 +61,6 @@ module _ (p : Answer Date) (r : ReadDate) (e : dateAnswer r ≡ p) where
 
 -- Where a year that may be absent was read, and the date is made of it.
 module _ (p : Answer Written) (text : List ℕ) (at : ℕ) (r : ReadYear) (e : yearAnswer text at r ≡ p) where
-  pub year-dated : (m d : ℕ) (q : Answer Date) → q ≡ writtenAt (yearAnswer text at r) m d text → q ≡ andThen p (λ y n. dated y m d text n)
-  unfolding writtenAt
-  year-dated m d q g = g ∙ ap (λ (a : Answer Written). writtenAt a m d text) e
-
   pub year-us : (w : List ℕ) (n : ℕ) (q : Answer Date) → q ≡ usAt w n (yearAnswer text at r) text → q ≡ andThen p (λ v k. us-date w n v text k)
   unfolding usAt
   year-us w n q g = g ∙ ap (λ (a : Answer Written). usAt w n a text) e

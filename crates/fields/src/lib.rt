@@ -6,7 +6,7 @@ use items::Item;
 ghost use mathlib.Core.Path.{_≡_};
 ghost use Prim.Native.Nat.{_<_};
 ghost use lib.ListN.{getD};
-ghost use Rattle.fields.specs.Fields.{little, signed, unsigned, small, fieldsFrom, fieldsAt, smallOf};
+ghost use Rattle.fields.specs.Fields.{little, signed, unsigned, small, fieldsFrom, fieldsAt, smallOf, digitsUsed};
 
 pub struct Fields {
     pub kind: u8,
@@ -158,4 +158,20 @@ pub fn fields_at(bytes: &[u8], index: u32) -> Fields
     ensures { λ r. ⌜ r ≡ fieldsAt (now (bytes .entry)) index ⌝ }
 {
     fields_from(bytes, 8 + 28 * (index as usize))
+}
+
+// How many digits an item uses.
+pub fn digits_used(item: Item) -> usize
+    ensures { λ r. ⌜ (r ≡ digitsUsed item) × (r < 65536) ⌝ }
+{
+    match item {
+        Item::Pure(pure) => pure.length as usize,
+        Item::Date(_) => 0,
+        Item::Time(_) => 0,
+        Item::DateTime(_) => 0,
+        Item::Weekday(_) => 0,
+        Item::Offset(_) => 0,
+        Item::LocalZone => 0,
+        Item::Relative(_) => 0,
+    }
 }

@@ -20,7 +20,7 @@ use times::time::TimeOffset;
 ghost use mathlib.Core.Path.{_≡_};
 ghost use Prim.Native.Nat.{_<_};
 ghost use Rattle.items.specs.declared.Item.the-variants as item;
-ghost use Rattle.fields.specs.Fields.{yearOf, dateOf, offsetOf, timeOffsetOf, timeOf, laterDay, dayOf, weekdayOf, laterUnit, unitOf, relativeOf, laterKind, itemOf, dateInRange, offsetInRange, timeInRange, zoneInRange, pureInRange, inRange, fitting, unpacked, digitsUsed, foundOf, dayFound};
+ghost use Rattle.fields.specs.Fields.{yearOf, dateOf, offsetOf, timeOffsetOf, timeOf, laterDay, dayOf, weekdayOf, laterUnit, unitOf, relativeOf, laterKind, itemOf, dateInRange, offsetInRange, timeInRange, zoneInRange, pureInRange, inRange, fitting, unpacked, foundOf, dayFound};
 
 // The item, if the fields are those of one in range.
 pub fn unpack(fields: Fields, used: u16) -> Found
@@ -319,20 +319,4 @@ fn pure_in_range(pure: Pure) -> bool
         return false;
     }
     pure.length <= 255
-}
-
-// How many digits an item uses.
-pub fn digits_used(item: Item) -> usize
-    ensures { λ r. ⌜ (r ≡ digitsUsed item) × (r < 65536) ⌝ }
-{
-    match item {
-        Item::Pure(pure) => pure.length as usize,
-        Item::Date(_) => 0,
-        Item::Time(_) => 0,
-        Item::DateTime(_) => 0,
-        Item::Weekday(_) => 0,
-        Item::Offset(_) => 0,
-        Item::LocalZone => 0,
-        Item::Relative(_) => 0,
-    }
 }

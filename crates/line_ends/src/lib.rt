@@ -8,7 +8,7 @@ ghost use Rattle.line_ends.specs.Put.{Put};
 ghost use Rattle.line_ends.specs.Lines.{lineLength, kept};
 
 // What is kept of a line: one byte more than the longest text that is read.
-pub const LONGEST_LINE: usize = 4097;
+const LONGEST_LINE: usize = 4097;
 
 const NEWLINE: u8 = 10;
 

@@ -128,12 +128,12 @@ pub fn signed_number(s: &[u8], at: usize, negative: bool) -> ReadI32
     let ReadU64::Match(n, next) = dec_uint(s, spaces::space(s, at), 2147483647) else {
         return ReadI32::NoMatch;
     };
-    ReadI32::Match(with_sign(negative, n as u32), next)
+    ReadI32::Match(with_sign(negative, n as u32) as i32, next)
 }
 
-fn with_sign(negative: bool, n: u32) -> i32
-    requires { ⌜ n < 2 ^ 31 ⌝ }
+// The number with its sign.
+pub fn with_sign(negative: bool, n: u32) -> i64
     ensures { λ r. ⌜ r ≡ signed negative n ⌝ }
 {
-    if negative { 0 - (n as i32) } else { n as i32 }
+    if negative { 0 - (n as i64) } else { n as i64 }
 }

@@ -90,7 +90,7 @@ fn build_items(packet: &[u8], count: usize, digits: &[u8], base: ExtendedDateTim
                 let place = more.place;
                 relatives[found] = place;
                 found += more.count;
-                used += items_of_fields::digits_used(item);
+                used += fields::digits_used(item);
                 i += 1;
             }
             Found::Bad => {
@@ -115,7 +115,7 @@ fn next_item(packet: &[u8], index: usize, digits: &[u8], used: usize) -> Found
     let Found::Item(item) = items_of_fields::unpack(found, used as u16) else {
         return Found::Bad;
     };
-    if digits_stand(digits, used, items_of_fields::digits_used(item)) {
+    if digits_stand(digits, used, fields::digits_used(item)) {
         return Found::Item(item);
     }
     Found::Bad

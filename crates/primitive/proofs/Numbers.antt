@@ -2,16 +2,17 @@
 -- digit. Assumes nothing.
 use borrow.Author.Tests.{leb-true, ltb-true}
 use native.Mathlib.Omega.{arith}
-use Prim.Native.Nat.{ℕ, _≤_, _<_, _^_}
+use Prim.Native.Nat.{ℕ, zero, suc, _≤_, _<_, _^_}
 use native.Mathlib.Nat.{lt-of-le-of-lt}
 use mathlib.Core.Path.{_≡_, refl, sym, ap, _∙_}
 use mathlib.Core.List.{List}
 use mathlib.Core.Bool.{Bool, true, false}
 use lib.Dec.{ltb, leb}
-use mir.Syntax.{Width}
-use mir.Val.{Fits, bits}
+use mir.Syntax.{Width, w32}
+use mir.Val.{Fits, SFits, bits}
 use Rattle.primitive.specs.Answer.{Answer, matched, none, stop, if, andThen}
 use Rattle.primitive.specs.Primitive.{decimal, parse-uint, dec-uint-str, dec-uint, u64Answer}
+use Rattle.primitive.specs.Ordinal.{signed}
 use Rattle.primitive.specs.declared.ReadU64.{ReadU64}
 use Rattle.primitive.specs.declared.ReadU64.the-variants as u64
 use Rattle.primitive.proofs.Chain.{chain}
@@ -41,5 +42,12 @@ module _ (v n max at : ℕ) (r : ReadU64) (text : List ℕ) (k : r ≡ u64.Match
 
   pub number-below : (b : ℕ) → ltb max b ≡ true → v < b
   number-below b h = lt-of-le-of-lt (number-limit max text at v n (sym e ∙ ap u64Answer k)) (ltb-true max b h)
+
+-- below 2 to the power 31 a number fits an i32 with either sign
+pub signed-fits : (negative : Bool) (n : ℕ) → n < 2147483648 → SFits w32 (signed negative n)
+unfolding signed
+signed-fits true zero h = record { sfits = omega arith }
+signed-fits true (suc k) h = record { sfits = omega arith }
+signed-fits false n h = record { sfits = h }
 
 pub ruleset numbers = (number-fits, number-below, chain)

@@ -3,12 +3,11 @@
 
 use primitive::ReadPlace;
 use primitive::ReadU32;
-ghost use Prim.Native.Nat.{_<_, _^_};
+ghost use Prim.Native.Nat.{_<_};
 ghost use mathlib.Core.Path.{_≡_};
 ghost use mathlib.Core.Bool.{true};
 ghost use lib.ListN.{length, getD, drop};
 ghost use Rattle.primitive.specs.Text.{lowered};
-ghost use Rattle.primitive.specs.Ordinal.{signed};
 ghost use Rattle.quick.specs.Shifts.{ShiftAt, BehindSign, CountAt, UnitAt, Plural, wayOf};
 
 pub enum TimeUnit {
@@ -83,10 +82,10 @@ fn count(s: &[u8], at: usize, negative: bool, n: u32) -> ReadShift
     };
     let end = behind_plural(s, end);
     if s.len() <= end {
-        return ReadShift::Match(unit, amount(negative, n));
+        return ReadShift::Match(unit, numbers::with_sign(negative, n) as i32);
     }
     if ago(s, end) {
-        return ReadShift::Match(unit, amount(!negative, n));
+        return ReadShift::Match(unit, numbers::with_sign(!negative, n) as i32);
     }
     ReadShift::NoMatch
 }
@@ -140,11 +139,4 @@ fn ago(s: &[u8], at: usize) -> bool
         return false;
     };
     end == s.len()
-}
-
-fn amount(negative: bool, n: u32) -> i32
-    requires { ⌜ n < 2 ^ 31 ⌝ }
-    ensures { λ r. ⌜ r ≡ signed negative n ⌝ }
-{
-    if negative { 0 - (n as i32) } else { n as i32 }
 }

@@ -1,12 +1,25 @@
 -- `quick::shifts::count` meets its contract: a blank, a unit and its direction stand behind the number. Assumes nothing.
 use borrow.Author.Needs.{needs}
-use mathlib.Core.Path.{_∙_}
-use mir.Syntax.{w32}
+use native.Mathlib.Omega.{arith}
+use mir.Syntax.{w32, w64}
 use mir.Val.{SFits}
 use mir.Facts.{toZ-ofZ}
+use Rattle.primitive.proofs.Numbers.{signed-fits}
 use Rattle.quick.proofs.ShiftForms.{counted-here, counted-ago}
 use Rattle.quick.proofs.shifts.count.Statement.{statement}
 use Rattle.quick.proofs.shifts.count.Tie as tie
+
+wide : (c : tie.After-with-sign) → SFits w64 (c .with-sign .result)
+wide c = search needs
+
+small : (c : tie.After-with-sign) → SFits w32 (c .with-sign .result)
+small c = rw (c .with-sign .ensures) (signed-fits _ _ (omega (arith, c .before .before .before .before .before .before .before .before .before .before .if1 .left)))
+
+wide-2 : (c : tie.After-with-sign2) → SFits w64 (c .with-sign2 .result)
+wide-2 c = search needs
+
+small-2 : (c : tie.After-with-sign2) → SFits w32 (c .with-sign2 .result)
+small-2 c = rw (c .with-sign2 .ensures) (signed-fits _ _ (omega (arith, c .before .before .before .before .before .before .before .before .before .before .before .before .if1 .left)))
 
 returns : tie.Need-returns
 returns c = search needs
@@ -38,20 +51,26 @@ returns-4 c = search needs
 behind-plural-requires : tie.Need-behind-plural-requires
 behind-plural-requires c κs = tt
 
-amount-requires : tie.Need-amount-requires
-amount-requires c κs = search needs
+with-sign-requires : tie.Need-with-sign-requires
+with-sign-requires c κs = tt
+
+cast-t14 : tie.Need-cast-t14
+cast-t14 c = rw (toZ-ofZ (wide c)) (small c)
 
 returns-5 : tie.Need-returns-5
-returns-5 c = let f : SFits w32 (c .amount .result) = search needs in counted-here _ _ _ _ _ _ _ _ (c .before .before .before .before .before .before .unit-at .result) (c .before .before .before .before .before .before .before .before .before .before .if1 .left) (c .before .before .before .before .before .before .before .before .before .if2 .left) (c .before .before .before .before .before .before .before .if3 .left) (c .before .before .before .before .before .before .unit-at .ensures) (c .before .before .before .before .unit .given .1) (c .before .before .behind-plural .ensures) (c .before .if4 .taken) (toZ-ofZ f ∙ c .amount .ensures)
+returns-5 c = counted-here _ _ _ _ _ _ _ _ (c .before .before .before .before .before .before .unit-at .result) (c .before .before .before .before .before .before .before .before .before .before .if1 .left) (c .before .before .before .before .before .before .before .before .before .if2 .left) (c .before .before .before .before .before .before .before .if3 .left) (c .before .before .before .before .before .before .unit-at .ensures) (c .before .before .before .before .unit .given .1) (c .before .before .behind-plural .ensures) (c .before .if4 .taken) (rw (toZ-ofZ (wide c), toZ-ofZ (small c)) (c .with-sign .ensures))
 
 ago-requires : tie.Need-ago-requires
 ago-requires c κs = search needs
 
-amount-requires-2 : tie.Need-amount-requires-2
-amount-requires-2 c κs = search needs
+with-sign-requires-2 : tie.Need-with-sign-requires-2
+with-sign-requires-2 c κs = tt
+
+cast-t18 : tie.Need-cast-t18
+cast-t18 c = rw (toZ-ofZ (wide-2 c)) (small-2 c)
 
 returns-6 : tie.Need-returns-6
-returns-6 c = let f : SFits w32 (c .amount2 .result) = search needs in counted-ago _ _ _ _ _ _ _ _ (c .before .before .before .before .before .before .before .before .unit-at .result) (c .before .before .before .before .before .before .before .before .before .before .before .before .if1 .left) (c .before .before .before .before .before .before .before .before .before .before .before .if2 .left) (c .before .before .before .before .before .before .before .before .before .if3 .left) (c .before .before .before .before .before .before .before .before .unit-at .ensures) (c .before .before .before .before .before .before .unit .given .1) (c .before .before .before .before .behind-plural .ensures) (c .before .before .ago .ensures (c .before .if5 .taken)) (toZ-ofZ f ∙ c .amount2 .ensures)
+returns-6 c = counted-ago _ _ _ _ _ _ _ _ (c .before .before .before .before .before .before .before .before .unit-at .result) (c .before .before .before .before .before .before .before .before .before .before .before .before .if1 .left) (c .before .before .before .before .before .before .before .before .before .before .before .if2 .left) (c .before .before .before .before .before .before .before .before .before .if3 .left) (c .before .before .before .before .before .before .before .before .unit-at .ensures) (c .before .before .before .before .before .before .unit .given .1) (c .before .before .before .before .behind-plural .ensures) (c .before .before .ago .ensures (c .before .if5 .taken)) (rw (toZ-ofZ (wide-2 c), toZ-ofZ (small-2 c)) (c .with-sign2 .ensures))
 
 returns-7 : tie.Need-returns-7
 returns-7 c = search needs
@@ -70,9 +89,11 @@ count-spec =
     enum-told
     returns-4
     behind-plural-requires
-    amount-requires
+    with-sign-requires
+    cast-t14
     returns-5
     ago-requires
-    amount-requires-2
+    with-sign-requires-2
+    cast-t18
     returns-6
     returns-7)

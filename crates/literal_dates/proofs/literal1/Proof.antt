@@ -2,8 +2,8 @@
 use borrow.Author.Needs.{needs}
 use Rattle.dates.proofs.Chain.{dates}
 use Rattle.dates.specs.Date.{literal1}
-use Rattle.date_forms.proofs.literal1.Statement.{statement}
-use Rattle.date_forms.proofs.literal1.Tie as tie
+use Rattle.literal_dates.proofs.literal1.Statement.{statement}
+use Rattle.literal_dates.proofs.literal1.Tie as tie
 
 spaced-u8-requires : tie.Need-spaced-u8-requires
 spaced-u8-requires c κs = tt

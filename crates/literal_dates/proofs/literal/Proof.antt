@@ -2,8 +2,8 @@
 use borrow.Author.Needs.{needs}
 use Rattle.dates.proofs.Chain.{dates}
 use Rattle.dates.specs.Date.{literal}
-use Rattle.date_forms.proofs.literal.Statement.{statement}
-use Rattle.date_forms.proofs.literal.Tie as tie
+use Rattle.literal_dates.proofs.literal.Statement.{statement}
+use Rattle.literal_dates.proofs.literal.Tie as tie
 
 literal1-requires : tie.Need-literal1-requires
 literal1-requires c κs = tt

@@ -2,8 +2,8 @@
 use borrow.Author.Needs.{needs}
 use Rattle.dates.proofs.Chain.{dates}
 use Rattle.dates.specs.Date.{literal2}
-use Rattle.date_forms.proofs.literal2.Statement.{statement}
-use Rattle.date_forms.proofs.literal2.Tie as tie
+use Rattle.literal_dates.proofs.literal2.Statement.{statement}
+use Rattle.literal_dates.proofs.literal2.Tie as tie
 
 spaced-month-requires : tie.Need-spaced-month-requires
 spaced-month-requires c κs = tt
