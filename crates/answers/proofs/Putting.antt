@@ -6,7 +6,7 @@ use native.Mathlib.Numerals.{add-one}
 use mathlib.Core.Path.{_≡_, refl, _∙_, ap}
 use mathlib.Core.List.{List, [], _∷_, _++_, append-assoc}
 use lib.ListN.{length, take, drop, set, length-append, take-append-drop}
-use lib.Seq.{length-take-le, set-split, take-at, drop-at, drop-append-add, drop-append-le, drop-drop}
+use lib.Seq.{length-take-le, set-split, take-at, drop-append-add, drop-append-le, drop-drop}
 use Rattle.extended.specs.Outcome.{Outcome, accepted, refused, number}
 use Rattle.extended.specs.declared.ExtendedDateTime.{ExtendedDateTime}
 use Rattle.builder.specs.Building.{builtOf}

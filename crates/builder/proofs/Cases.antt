@@ -1,21 +1,14 @@
 -- What each definition by cases answers for each case of its enum, in the words of a function that has matched it. Assumes nothing.
-use native.Mathlib.Omega.{arith}
-use Prim.Native.Nat.{ℕ, _+_, _≤_}
-use mathlib.Core.Path.{_≡_, refl}
-use mathlib.Core.Bool.{Bool, true, false}
-use mathlib.Core.List.{List, [], _∷_}
-use lib.ListN.{take}
+use Prim.Native.Nat.{ℕ}
+use mathlib.Core.Path.{_≡_}
+use mathlib.Core.List.{List}
 use lib.IntN.{ℤ}
-use borrow.Author.Tests.{ne-eqb}
-use Rattle.primitive.specs.Answer.{if}
 use Rattle.extended.specs.Outcome.{Outcome, accepted, _>>=_}
 use Rattle.extended.specs.Extended.{madeOf, time, date, withDate, withTime, withOffset, addSeconds, addDays, addHours, addMinutes, addYears, addMonths, weekdayMonday0}
 use Rattle.extended.specs.declared.ExtendedDateTime.{ExtendedDateTime}
 use Rattle.extended.specs.declared.Made.{Made}
 use Rattle.extended.specs.declared.Made.the-variants as made
 use Rattle.dates.specs.declared.date.Date.{Date}
-use Rattle.dates.specs.declared.date.DateYear.{DateYear}
-use Rattle.dates.specs.declared.date.DateYear.the-variants as year
 use Rattle.times.specs.Offset.{normalized, totalSeconds}
 use Rattle.times.specs.declared.offset.Normalized.{Normalized}
 use Rattle.times.specs.declared.offset.Offset.{Offset}
@@ -24,11 +17,7 @@ use Rattle.times.specs.declared.time.TimeOffset.{TimeOffset}
 use Rattle.times.specs.declared.time.TimeOffset.the-variants as offset
 use Rattle.relative.specs.declared.Relative.{Relative}
 use Rattle.relative.specs.declared.Relative.the-variants as relative
-use Rattle.items.specs.declared.combined.DateTime.{DateTime}
 use Rattle.items.specs.declared.Weekday.{Weekday}
-use Rattle.items.specs.declared.Pure.{Pure}
-use Rattle.items.specs.declared.Item.{Item}
-use Rattle.items.specs.declared.Item.the-variants as item
 use Rattle.extended.specs.Placed as placed
 use Rattle.extended.specs.Placed.{Placed, fine, refusal}
 use Rattle.rules.specs.Rules.{standingOf}
@@ -46,7 +35,6 @@ use Rattle.rules.specs.declared.GivenZone.{GivenZone}
 use Rattle.rules.specs.declared.GivenZone.the-variants as given-zone
 use Rattle.rules.specs.declared.DateTimeBuilder.{DateTimeBuilder}
 use Rattle.rules.specs.declared.RelativePlace.{RelativePlace}
-use Rattle.rules.specs.declared.Found.{Found}
 use Rattle.builder.proofs.Chain.{steps}
 
 -- ---- building

@@ -8,7 +8,7 @@ use lib.IntN.{ℤ, pos, negsuc, _+ℤ_, _*ℤ_}
 use Rattle.integers.specs.Integers.{naturalOf, inI64, fitsIf, product, sum}
 use Rattle.integers.specs.declared.Checked.the-variants.{Fits, Overflow}
 use Rattle.integers.specs.declared.Natural.the-variants.{At, Below}
-use Rattle.integers.proofs.Range.{leZ-by-ltZ, fits-value}
+use Rattle.integers.proofs.Range.{fits-value}
 use Rattle.extended.specs.Outcome.{accepted, refused}
 use Rattle.builder.specs.Building.{nearer, weekdaySum}
 use Rattle.integers.specs.Integers.{inI32}

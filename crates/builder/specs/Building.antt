@@ -1,6 +1,6 @@
 -- How the items make a record of the base: document 01, 'items/weekday.rs, items/builder.rs'.
 use Prim.Native.Nat.{ℕ, zero, suc, _+_, _-_, _%_}
-use mathlib.Core.Bool.{Bool, true, false, _&&_}
+use mathlib.Core.Bool.{Bool, true, false}
 use mathlib.Core.List.{List, [], _∷_}
 use lib.Dec.{eqb}
 use lib.IntN.{ℤ, pos, negsuc, _+ℤ_, _*ℤ_}
@@ -17,8 +17,7 @@ use Rattle.times.specs.declared.time.TimeOffset.{TimeOffset}
 use Rattle.times.specs.declared.time.TimeOffset.the-variants as offset
 use Rattle.relative.specs.declared.Relative.{Relative}
 use Rattle.relative.specs.declared.Relative.the-variants as relative
-use Rattle.items.specs.declared.Day.{Day}
-use Rattle.items.specs.declared.Day.the-variants as day
+use Rattle.items.specs.Items.{dayIndex}
 use Rattle.items.specs.declared.Weekday.{Weekday}
 use Rattle.items.specs.declared.Slot.{Slot}
 use Rattle.extended.specs.Placed as placed
@@ -64,16 +63,6 @@ onTime given-time.Absent r = accepted r
 onTime (given-time.Given t) r = do
   next ← onOffset (t .offset) r
   withTime next (time (t .hour) (t .minute) (t .second) (t .nanosecond))
-
--- days from Monday, 0
-abbrev pub dayIndex : Day → ℕ
-dayIndex day.Monday = 0
-dayIndex day.Tuesday = 1
-dayIndex day.Wednesday = 2
-dayIndex day.Thursday = 3
-dayIndex day.Friday = 4
-dayIndex day.Saturday = 5
-dayIndex day.Sunday = 6
 
 -- A week forward is one less where another day comes first: on a Monday, next Friday is this week's.
 abbrev pub nearer : ℤ → ℤ

@@ -8,7 +8,6 @@ use extended::Made;
 use extended::TimeParts;
 use integers::Checked;
 use integers::Natural;
-use items::Day;
 use items::Weekday;
 use relative::Relative;
 use rules::DateTimeBuilder;
@@ -26,7 +25,7 @@ ghost use lib.ListN.{take};
 ghost use Rattle.extended.specs.Extended.{madeOf, accept};
 ghost use Rattle.extended.specs.Placed.{placed};
 ghost use Rattle.rules.specs.Rules.{standingOf};
-ghost use Rattle.builder.specs.Building.{start, yearOr, onDate, onOffset, onTime, dayIndex, ahead, weeks, weekdaySum, delta, forwarded, onWeekday, addRelative, addRelatives, withZone, onZone, absolute, buildExtended, built, builtOf, daysOf};
+ghost use Rattle.builder.specs.Building.{start, yearOr, onDate, onOffset, onTime, ahead, weeks, weekdaySum, delta, forwarded, onWeekday, addRelative, addRelatives, withZone, onZone, absolute, buildExtended, built, builtOf, daysOf};
 
 // A record, or the number and the place of a refusal.
 pub enum Built {
@@ -204,22 +203,8 @@ fn delta(weekday: Weekday, today: u32) -> Days
     ensures { λ r. ⌜ daysOf r ≡ delta weekday today ⌝ }
 {
     let day = weekday.day;
-    let target = day_index(day);
+    let target = items::day_index(day) as u32;
     weekday_sum(weeks(weekday.offset, today == target), ahead(today, target))
-}
-
-fn day_index(day: Day) -> u32
-    ensures { λ r. ⌜ r ≡ dayIndex day ⌝ }
-{
-    match day {
-        Day::Monday => 0,
-        Day::Tuesday => 1,
-        Day::Wednesday => 2,
-        Day::Thursday => 3,
-        Day::Friday => 4,
-        Day::Saturday => 5,
-        Day::Sunday => 6,
-    }
 }
 
 // The days from one day of the week to the next that is another, 0 to itself.

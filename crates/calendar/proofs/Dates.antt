@@ -8,7 +8,7 @@ use lib.Dec.{ltb}
 use borrow.Author.Tests.{ltb-true, ltb-false}
 use Rattle.calendar.specs.declared.Civil.{Civil}
 use Rattle.calendar.specs.Calendar.{monthDays, daysBeforeYear, daysOfMonths, dayNumber, Valid, ymd, nextDay, civil}
-use Rattle.calendar.proofs.Counting.{month-bounds, months-none, years-none, months-le, years-le, year-lt, months-of-year, months-step, year-step}
+use Rattle.calendar.proofs.Counting.{month-bounds, months-none, years-none, months-le, years-le, months-of-year, months-step, year-step}
 
 -- the day number of a date
 abbrev pub dayOf : Civil → ℕ

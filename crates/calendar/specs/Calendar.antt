@@ -1,6 +1,6 @@
 -- Document 01, 'The counted calendar': years, months and days, by counting.
 use Prim.Native.Nat.{ℕ, zero, suc, _+_, _-_, _%_, _≤_}
-use mathlib.Core.Bool.{Bool, true, false, not, _&&_, _||_, cond}
+use mathlib.Core.Bool.{Bool, not, _&&_, _||_, cond}
 use mathlib.Core.List.{List, [], _∷_}
 use lib.Dec.{eqb, ltb}
 use lib.ListN.{getD}

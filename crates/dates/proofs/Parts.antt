@@ -1,14 +1,14 @@
 -- Laws of parts of a text: where a run of bytes ends, what parts a part has, and a byte behind a part. Assumes nothing.
-use Prim.Native.Nat.{ℕ, zero, suc, _+_, _-_, _<_, _≤_}
+use Prim.Native.Nat.{ℕ, suc, _+_, _-_, _<_, _≤_}
 use mathlib.Core.Path.{_≡_, refl, sym, ap, ap₂, _∙_}
 use mathlib.Core.Bool.{Bool, true, false, _&&_}
 use mathlib.Core.List.{List, [], _∷_, _++_}
 use native.Mathlib.Omega.{arith}
 use native.Mathlib.Numerals.{add-one}
 use lib.Dec.{ltb, eqb}
-use lib.ListN.{length, getD, take, drop, length-take, length-drop}
+use lib.ListN.{length, getD, take, drop, length-drop}
 use lib.Seq.{slice, length-take-le, take-suc, drop-cons, take-take, take-add, drop-drop, drop-at, drop-append-le}
-use borrow.Author.Tests.{ltb-true, ltb-false, eqb-true}
+use borrow.Author.Tests.{ltb-true, eqb-true}
 use Rattle.primitive.specs.Answer.{Answer, matched, none, if}
 use Rattle.primitive.specs.Text.{run, past, some, starts, tag, byte}
 

@@ -1,6 +1,6 @@
 -- Laws of digits as years: how many there are, and that widening makes no year smaller. Assumes nothing.
 use Prim.Native.Nat.{ℕ, _+_, _-_, _<_, _≤_, min}
-use mathlib.Core.Path.{_≡_, refl, sym, ap, _∙_}
+use mathlib.Core.Path.{_≡_, refl, ap, _∙_}
 use mathlib.Core.Bool.{Bool, true, false}
 use mathlib.Core.List.{List}
 use native.Mathlib.Omega.{arith}
@@ -8,7 +8,7 @@ use lib.Dec.{leb, eqb}
 use lib.ListN.{length, take, length-take, length-drop}
 use lib.Seq.{slice}
 use borrow.Author.Tests.{leb-true, leb-false}
-use Rattle.primitive.specs.Answer.{Answer, matched, none, if, verify}
+use Rattle.primitive.specs.Answer.{matched, none, if, verify}
 use Rattle.primitive.specs.Text.{lowered}
 use Rattle.primitive.specs.Primitive.{decimal, parse-uint}
 use Rattle.primitive.proofs.Lowered.{length-lowered}

@@ -7,7 +7,7 @@ use lib.ListN.{length, getD, take, drop}
 use lib.Seq.{slice}
 use lib.Dec.{ltb, leb}
 use Rattle.extended.specs.Calendar.{monthDays}
-use Rattle.primitive.specs.Answer.{Answer, Reader, matched, none, if, andThen, orElse, _>>=_, _>>_, _<|>_, pure, value, optional, verify}
+use Rattle.primitive.specs.Answer.{Answer, Reader, matched, none, if, andThen, _>>=_, _>>_, _<|>_, pure, value, optional, verify}
 use Rattle.primitive.specs.Text.{char}
 use Rattle.primitive.specs.Primitive.{multispace1, spaced, parse-uint, dec-uint-str, dec-uint, alpha1, named}
 use Rattle.dates.specs.Year.{year-from-str, year-str}

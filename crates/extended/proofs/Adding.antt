@@ -1,23 +1,22 @@
 -- Seconds, minutes, hours and days raise an accepted record's moment by exactly their worth, and reach every accepted record
 -- that has the moment so raised. Assumes nothing.
 use Prim.Native.Nat.{ℕ, _+_, _-_, _*_, _/_, _%_, _<_, _≤_}
-use mathlib.Core.Path.{_≡_, refl, sym, ap, ap₂, _∙_, subst}
+use mathlib.Core.Path.{_≡_, refl, sym, ap, ap₂, _∙_}
 use mathlib.Core.Bool.{Bool, true, false, cond}
 use native.Mathlib.Omega.{arith}
 use lib.Dec.{ltb}
-use lib.IntN.{ℤ, pos, negsuc, subℕ, _+ℤ_, _-ℤ_, _*ℤ_, +ℤ-idr, +ℤ-comm, +ℤ-negℤ-cancel}
+use lib.IntN.{ℤ, pos, subℕ, _+ℤ_, _-ℤ_, _*ℤ_, +ℤ-idr, +ℤ-comm, +ℤ-negℤ-cancel}
 use lib.Signed.{mag}
 use mir.Syntax.{w64}
 use mir.Val.{SFits}
-use borrow.Author.Tests.{lt-ltb, le-ltb, ltb-true, ltb-false}
+use borrow.Author.Tests.{lt-ltb, ltb-true, ltb-false}
 use Rattle.integers.specs.Integers.{raised, sum, product, inI64, fitsIf}
-use Rattle.integers.specs.declared.Checked.the-variants.{Fits}
 use Rattle.integers.proofs.Differences.{diff-pos, diff-sub}
 use Rattle.integers.proofs.Range.{as-diff, raised-near, diff-near, less-diff, fits-in}
-use Rattle.extended.specs.Outcome.{Outcome, accepted, refused, check, _>>=_, _>>_}
+use Rattle.extended.specs.Outcome.{accepted, check, _>>=_, _>>_}
 use Rattle.extended.specs.Extended.{checked, test, moment, clockSeconds, fromUnixSeconds, carried, addSeconds, addUnits, addDays}
 use Rattle.extended.specs.declared.ExtendedDateTime.{ExtendedDateTime}
-use Rattle.extended.proofs.Outcomes.{apart, check-true, first-passed}
+use Rattle.extended.proofs.Outcomes.{first-passed}
 use Rattle.extended.proofs.Records.{Accepted, facts, tested, clock-bound, offset-near}
 use Rattle.extended.proofs.Moments.{from-moment, given, Given, fits-passed, sum-passed}
 

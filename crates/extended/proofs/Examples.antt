@@ -3,7 +3,7 @@
 use Prim.Native.Nat.{ℕ}
 use mathlib.Core.Path.{_≡_, refl, sym, ap, _∙_}
 use lib.IntN.{ℤ, pos, negsuc, _+ℤ_, _*ℤ_}
-use Rattle.integers.specs.Integers.{sum, product, naturalOf}
+use Rattle.integers.specs.Integers.{sum, naturalOf}
 use Rattle.extended.specs.Outcome.{accepted, refused}
 use Rattle.calendar.specs.Calendar.{leap, yearDays, daysBeforeYear, monthDays, daysOfMonths, dayNumber, ymd, nextDay, civil}
 use Rattle.extended.specs.Extended.{make, date, time, test, testDate, testTime, testOffset, testYear, accept, clockSeconds, moment, fromUnixSeconds, withDate, clamp, addDays, addYears, addMonths}

@@ -1,22 +1,19 @@
 -- `fromUnixSeconds` gives the one accepted record of a moment, an offset and a nanosecond. Assumes nothing.
-use Prim.Native.Nat.{ℕ, _+_, _-_, _*_, _/_, _%_, _<_, _≤_}
+use Prim.Native.Nat.{ℕ, _+_, _-_, _*_, _/_, _%_, _≤_}
 use mathlib.Core.Path.{_≡_, refl, sym, ap, ap₂, _∙_, subst}
 use mathlib.Core.Bool.{Bool, true, false}
 use native.Mathlib.Omega.{arith}
 use lib.Dec.{leb}
 use lib.IntN.{ℤ, pos, negsuc, negℤ, subℕ, _+ℤ_, _-ℤ_, +ℤ-assoc, +ℤ-comm, -ℤ-+ℤ-cancel, +ℤ-negℤ-cancel}
-use lib.Signed.{mag}
 use mir.Syntax.{w64}
 use mir.Val.{SFits}
 use borrow.Author.Tests.{le-leb, leb-true}
 use Rattle.integers.specs.Integers.{sum, naturalOf, inI64, fitsIf}
-use Rattle.integers.specs.declared.Checked.{Checked}
-use Rattle.integers.specs.declared.Checked.the-variants.{Fits, Overflow}
 use Rattle.integers.proofs.Differences.{diff-pos, diff-sub}
-use Rattle.integers.proofs.Range.{diff-fits, fits-in, fits-value}
-use Rattle.extended.specs.Outcome.{Outcome, accepted, refused, check, _>>=_, _>>_}
+use Rattle.integers.proofs.Range.{diff-fits, fits-in}
+use Rattle.extended.specs.Outcome.{Outcome, accepted, check, _>>=_, _>>_}
 use Rattle.calendar.specs.Calendar.{dayNumber, civil, ymd}
-use Rattle.extended.specs.Extended.{checked, fromZero, make, date, time, test, testOffset, testYear, clockSeconds, moment, clockRecord, fromClock, fromUnixSeconds}
+use Rattle.extended.specs.Extended.{checked, fromZero, make, date, time, testOffset, testYear, clockSeconds, moment, clockRecord, fromClock, fromUnixSeconds}
 use Rattle.calendar.specs.declared.Civil.{Civil}
 use Rattle.extended.specs.declared.ExtendedDateTime.{ExtendedDateTime}
 use Rattle.calendar.proofs.Dates.{place, back}

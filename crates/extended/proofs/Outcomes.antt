@@ -1,7 +1,7 @@
 -- Laws of answers: what a number says of the tests behind it. Assumes nothing.
 use Prim.Native.Nat.{ℕ, suc, _<_, _≤_}
 use mathlib.Core.Path.{_≡_, refl, sym, ap, _∙_}
-use mathlib.Core.Bool.{Bool, true, false, _&&_}
+use mathlib.Core.Bool.{Bool, true, false}
 use native.Mathlib.Omega.{arith}
 use Rattle.extended.specs.Outcome.{Outcome, accepted, refused, number, check, _>>=_, _>>_}
 

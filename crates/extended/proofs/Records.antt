@@ -1,16 +1,15 @@
 -- What it means that `new` accepts a record. Assumes nothing.
-use Prim.Native.Nat.{ℕ, _+_, _-_, _*_, _<_, _≤_}
-use mathlib.Core.Path.{_≡_, refl, sym, ap, _∙_}
-use mathlib.Core.Bool.{Bool, true, false, _&&_}
+use Prim.Native.Nat.{ℕ, _-_, _<_, _≤_}
+use mathlib.Core.Path.{_≡_}
+use mathlib.Core.Bool.{Bool, true, _&&_}
 use native.Mathlib.Omega.{arith}
 use lib.Dec.{leb}
 use lib.IntN.{ℤ, pos, negsuc}
 use lib.Signed.{leZ, mag}
 use borrow.Author.Tests.{leb-true, le-leb}
-use Rattle.integers.proofs.Differences.{untrue}
-use Rattle.extended.specs.Outcome.{Outcome, accepted, number, check, _>>_}
-use Rattle.calendar.specs.Calendar.{monthDays, dayNumber, Valid, ymd}
-use Rattle.extended.specs.Extended.{date, time, dateOf, timeOf, testDate, testTime, testOffset, test, testYear, clockSeconds}
+use Rattle.extended.specs.Outcome.{accepted, check, _>>_}
+use Rattle.calendar.specs.Calendar.{monthDays, Valid, ymd}
+use Rattle.extended.specs.Extended.{date, dateOf, timeOf, testDate, testTime, testOffset, test, testYear, clockSeconds}
 use Rattle.extended.specs.declared.DateParts.{DateParts}
 use Rattle.extended.specs.declared.TimeParts.{TimeParts}
 use Rattle.extended.specs.declared.ExtendedDateTime.{ExtendedDateTime}

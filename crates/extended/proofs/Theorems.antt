@@ -1,22 +1,22 @@
 -- What is proved of the calendar beside the contracts: read this file first. `test r ≡ accepted tt` says that `new` refuses none
 -- of the numbers of r. Assumes nothing.
-use Prim.Native.Nat.{ℕ, suc, _+_, _*_, _/_, _%_, _<_, _≤_}
+use Prim.Native.Nat.{ℕ, _+_, _*_, _/_, _%_, _<_, _≤_}
 use mathlib.Core.Path.{_≡_, refl, sym, ap, ap₂, _∙_}
 use mathlib.Core.Logic.{_↔_}
 use native.Mathlib.Omega.{arith}
-use lib.IntN.{ℤ, pos, _+ℤ_, _-ℤ_, _*ℤ_}
-use Rattle.extended.specs.Outcome.{Outcome, accepted, refused}
-use Rattle.calendar.specs.Calendar.{leap, yearDays, daysBeforeYear, monthDays, daysOfMonths, dayNumber, Valid, ymd, nextDay, civil, nextWeekday, weekday}
+use lib.IntN.{ℤ, pos, _+ℤ_, _*ℤ_}
+use Rattle.extended.specs.Outcome.{accepted, refused}
+use Rattle.calendar.specs.Calendar.{leap, yearDays, daysBeforeYear, daysOfMonths, dayNumber, Valid, nextDay, civil, nextWeekday, weekday}
 use Rattle.extended.specs.Calendar.{mondayWeekday, sundayWeekday}
-use Rattle.extended.specs.Extended.{make, date, time, dateOf, timeOf, test, testOffset, clockSeconds, moment, fromUnixSeconds, addSeconds, addUnits, addDays, addHours, addMinutes}
+use Rattle.extended.specs.Extended.{make, date, time, dateOf, test, clockSeconds, moment, fromUnixSeconds, addSeconds, addUnits, addDays, addHours, addMinutes}
 use Rattle.calendar.specs.declared.Civil.{Civil}
 use Rattle.extended.specs.declared.ExtendedDateTime.{ExtendedDateTime}
 use Rattle.calendar.proofs.Counting.{weekday-closed}
 use Rattle.calendar.proofs.Dates.{dayOf, place, unique, number-next}
 use Rattle.extended.proofs.Outcomes.{apart}
-use Rattle.extended.proofs.Records.{Accepted, facts, tested}
+use Rattle.extended.proofs.Records.{facts, tested}
 use Rattle.extended.proofs.Moments.{from-moment, given}
-use Rattle.extended.proofs.Adding.{Raised, seconds-to, seconds-from, Moved, units-to, units-from}
+use Rattle.extended.proofs.Adding.{seconds-to, seconds-from, units-to, units-from}
 
 -- ---- 1. Every natural number is the day number of exactly one date
 pub some-date : (n : ℕ) → Valid (civil n) × (dayOf (civil n) ≡ n)

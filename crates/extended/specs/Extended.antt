@@ -12,7 +12,6 @@ use Rattle.integers.specs.declared.Natural.the-variants as natural
 use Rattle.extended.specs.Outcome.{Outcome, accepted, refused, check, _>>=_, _>>_}
 use Rattle.calendar.specs.Calendar.{monthDays, daysOfMonths, dayNumber, civil}
 use Rattle.extended.specs.Calendar.{mondayWeekday, sundayWeekday}
-use Rattle.calendar.specs.declared.Civil.{Civil}
 use Rattle.extended.specs.declared.DateParts.{DateParts}
 use Rattle.extended.specs.declared.TimeParts.{TimeParts}
 use Rattle.extended.specs.declared.ExtendedDateTime.{ExtendedDateTime}

@@ -1,5 +1,4 @@
 -- What each definition answers for each case of its enum and each test, in the words of a function that has made it. Assumes nothing.
-use borrow.Author.Needs.{needs}
 use borrow.Author.Tests.{eq-eqb, ne-eqb, le-leb, lt-leb}
 use Prim.Native.Nat.{ℕ, _+_, _<_, _≤_}
 use mathlib.Core.Path.{_≡_, refl}
@@ -27,7 +26,7 @@ use Rattle.items.specs.declared.Weekday.{Weekday}
 use Rattle.items.specs.declared.Pure.{Pure}
 use Rattle.items.specs.declared.Item.{Item}
 use Rattle.items.specs.declared.Item.the-variants as item
-use Rattle.builder.specs.Building.{dayIndex}
+use Rattle.items.specs.Items.{dayIndex}
 use Rattle.rules.proofs.Chain.{steps}
 use Rattle.fields.specs.Fields.{little, unsigned, fieldsFrom, same, yearField, yearFlag, hoursField, minutesField, yearOf, dateOf, offsetOf, timeOffsetOf, timeOf, dateInRange, offsetInRange, timeInRange, zoneInRange, pureInRange, inRange, offsetFlags, signFlag, withDate, withTime, ofZone, ofRelative, ofPure, counted, fieldsOf, foundOf, dayFound, smallOf}
 use Rattle.fields.specs.declared.Fields.{Fields}

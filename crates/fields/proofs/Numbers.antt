@@ -1,18 +1,17 @@
 -- The laws of the numbers in an item's bytes: little-endian ones, and signed ones. Assumes nothing.
 use native.Mathlib.Omega.{arith}
-use Prim.Native.Nat.{ℕ, zero, suc, _+_, _-_, _*_, _^_, _<_, _≤_}
-use mathlib.Core.Path.{_≡_, refl, sym, ap, _∙_}
-use mathlib.Core.Bool.{Bool, true, false, _&&_}
+use Prim.Native.Nat.{ℕ, suc, _+_, _-_, _*_, _^_, _<_, _≤_}
+use mathlib.Core.Path.{_≡_, refl, sym}
+use mathlib.Core.Bool.{Bool, true, false}
 use mathlib.Core.List.{List}
 use borrow.Author.Tests.{ltb-true, ltb-false, lt-ltb, le-ltb, le-leb, lt-leb}
 use lib.ListN.{getD}
-use lib.Dec.{ltb, leb}
+use lib.Dec.{ltb}
 use lib.IntN.{ℤ, pos, negsuc, _-ℤ_}
 use mir.Syntax.{Width, w64}
 use mir.Val.{SFits, hbits, toZ, ofZ}
 use mir.Facts.{toZ-pos, toZ-ofZ}
-use Rattle.primitive.specs.Answer.{if}
-use Rattle.integers.specs.Integers.{raised, inI32}
+use Rattle.integers.specs.Integers.{raised}
 use Rattle.integers.proofs.Differences.{below-zero}
 use Rattle.extended.specs.Outcome.{accepted, refused}
 use Rattle.fields.specs.Fields.{little, signed, unsigned, small}

@@ -26,7 +26,7 @@ use Rattle.items.specs.declared.Weekday.{Weekday}
 use Rattle.items.specs.declared.Pure.{Pure}
 use Rattle.items.specs.declared.Item.{Item}
 use Rattle.items.specs.declared.Item.the-variants as item
-use Rattle.builder.specs.Building.{dayIndex}
+use Rattle.items.specs.Items.{dayIndex}
 use Rattle.fields.specs.declared.Fields.{Fields}
 use Rattle.fields.specs.declared.Found.{Found}
 use Rattle.fields.specs.declared.Found.the-variants as found

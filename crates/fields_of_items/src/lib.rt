@@ -3,7 +3,6 @@
 use dates::date::Date;
 use dates::date::DateYear;
 use fields::Fields;
-use items::Day;
 use items::Item;
 use items::Pure;
 use items::Weekday;
@@ -15,7 +14,7 @@ use times::time::TimeOffset;
 ghost use mathlib.Core.Path.{_≡_};
 ghost use Prim.Native.Nat.{_+_, _≤_};
 ghost use Rattle.items.specs.declared.Item.the-variants as item;
-ghost use Rattle.builder.specs.Building.{dayIndex};
+ghost use Rattle.items.specs.Items.{dayIndex};
 ghost use Rattle.fields.specs.Fields.{unsigned, yearFlag, yearField, signFlag, offsetFlags, hoursField, minutesField, withDate, withTime, ofZone, counted, ofRelative, ofPure, fieldsOf, sameDate, sameTime, sameRest, sameLater, same};
 
 // The fields of an item.
@@ -135,24 +134,10 @@ fn of_weekday(weekday: Weekday) -> Fields
     let day = weekday.day;
     counted(
         4,
-        day_field(day),
+        items::day_index(day),
         fields::unsigned(integers::widen(weekday.offset)),
         0,
     )
-}
-
-fn day_field(day: Day) -> u8
-    ensures { λ r. ⌜ r ≡ dayIndex day ⌝ }
-{
-    match day {
-        Day::Monday => 0,
-        Day::Tuesday => 1,
-        Day::Wednesday => 2,
-        Day::Thursday => 3,
-        Day::Friday => 4,
-        Day::Saturday => 5,
-        Day::Sunday => 6,
-    }
 }
 
 fn of_relative(relative: Relative) -> Fields

@@ -6,7 +6,6 @@ use mathlib.Core.Path.{_≡_, refl}
 use mathlib.Core.List.{List, [], _∷_, _++_}
 use mathlib.Core.Bool.{true, false}
 use lib.ListN.{length}
-use lib.Dec.{eqb}
 use Rattle.primitive.specs.Text.{blank, digit, letter}
 use Rattle.primitive.specs.Primitive.{decimal}
 use Rattle.dates.specs.Date.{iso1, dateOf, exists, unwritten, hyphen, comma, dotted, us, slash-part, literal, literal2, parse-non-iso}
@@ -19,7 +18,7 @@ use Rattle.items.specs.declared.Item.the-variants as item
 use Rattle.forms.proofs.Walk.{Reads, Fails, Spaces, _⟨_⟩!_, at-once, first, _or_, _nor_, not-behind-space}
 use Rattle.forms.proofs.Leaves.{head, other, blank-no-digit, blanks-head, plain, minus, number-head, number-still, number-else, still, blanks}
 use Rattle.primitive.proofs.Rows.{all, Number}
-use Rattle.forms.proofs.Dates.{Year, inYear, day-small, YearOrNone, year-or-none-small, iso1-read, row-number, iso2-read, glued, small-no-date, month-day-year-read, year-month-day-read, month-day-read, dotted-read}
+use Rattle.forms.proofs.Dates.{Year, inYear, day-small, YearOrNone, year-or-none-small, iso1-read, iso2-read, glued, small-no-date, month-day-year-read, year-month-day-read, month-day-read, dotted-read}
 use Rattle.forms.proofs.LiteralDates.{Month, Apart, month-head, month-no-digit, month-still, month-read}
 use Rattle.forms.proofs.LiteralDates.{day-month-read, month-day-read as name-day-read, month-day-year-read as name-day-year-read}
 use Rattle.forms.proofs.Items.{iso-date-alone, other-date, no-iso, no-dotted, no-us, no-literal1, no-row, number-no-iso1, number-no-dotted, number-no-us}

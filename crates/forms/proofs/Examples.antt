@@ -1,12 +1,12 @@
 -- The manual's worked examples, each by the theorem of its form: what the theorems ask for can be met. Assumes nothing.
 use native.Mathlib.Omega.{arith}
 use borrow.Author.Tests.{ltb-true, leb-true}
-use Prim.Native.Nat.{ℕ, _<_, _≤_}
+use Prim.Native.Nat.{ℕ}
 use mathlib.Core.Path.{_≡_, refl}
-use mathlib.Core.List.{List, [], _∷_, _++_}
-use mathlib.Core.Bool.{Bool, true, false, _&&_}
+use mathlib.Core.List.{List, []}
+use mathlib.Core.Bool.{true, false, _&&_}
 use lib.ListN.{length}
-use lib.Dec.{ltb, leb, eqb}
+use lib.Dec.{ltb, leb}
 use lib.IntN.{pos, negsuc}
 use Rattle.extended.specs.Calendar.{leap, monthDays}
 use Rattle.extended.specs.Extended.{lastYear}

@@ -15,7 +15,7 @@ use Rattle.primitive.specs.Text.{blank, digit, letter, run, past, some, starts,
 use Rattle.primitive.specs.Primitive.{multispace0, comment, no-digit, sign, ignored-hyphen-or-plus, ignored, skip, space, decimal, parse-uint, dec-uint-str, dec-uint, colon, plus-or-minus, alpha1}
 use Rattle.primitive.specs.Epoch.{nanoseconds, point-or-comma, fraction, sec-and-nsec}
 use Rattle.primitive.proofs.Limits.{slice-take}
-use Rattle.primitive.proofs.Rows.{all, halves, both, Number}
+use Rattle.primitive.proofs.Rows.{all, halves, Number}
 use Rattle.forms.proofs.Walk.{Reads, Fails, Spaces, _⟨_⟩_, _⟨_⟩!_, at-once, first, _or_, _nor_, nothing, verified, behind-space, not-behind-space}
 
 -- the first byte, and 0 at the end

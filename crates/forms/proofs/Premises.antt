@@ -1,13 +1,11 @@
 -- What the premises of the written forms keep out, computed: beside each form a text that does not meet its premise, and what is read
 -- there. Assumes nothing.
 use Prim.Native.Nat.{ℕ}
-use Prim.Native.String.{String}
 use mathlib.Core.Path.{_≡_, refl}
-use mathlib.Core.List.{List, [], _∷_}
-use mathlib.Core.Bool.{Bool, true, false}
-use lib.IntN.{ℤ, pos, negsuc}
+use mathlib.Core.Bool.{false}
+use lib.IntN.{pos, negsuc}
 use Rattle.extended.specs.Calendar.{leap, monthDays}
-use Rattle.primitive.specs.Answer.{Answer, Reader, matched, none, stop}
+use Rattle.primitive.specs.Answer.{matched, none}
 use Rattle.primitive.specs.Text.{lower, lowered, bytes, blank, digit, letter, run, past, some, starts, tag}
 use Rattle.primitive.specs.Primitive.{multispace0, multispace1, closing, inside, comment, no-digit, sign, ignored-hyphen-or-plus, ignored, skip, space, decimal, parse-uint, dec-uint-str, dec-uint, colon, plus-or-minus, alpha1, same, named}
 use Rattle.primitive.specs.Epoch.{padded, nanoseconds, point-or-comma, fraction, sec-and-nsec}
@@ -19,7 +17,6 @@ use Rattle.times.specs.Offset.{inRange, offset-of, timezone-offset-colon, digit
 use Rattle.times.specs.Time.{below, hour24, hour12, minute, second, optional-second, optional-minute, optional-correction, hour-offset, clock, iso, meridiem, am-pm-time}
 use Rattle.times.specs.Time.{parse as time-parse}
 use Rattle.times.specs.declared.time.Time.{Time}
-use Rattle.times.specs.declared.time.TimeOffset.{TimeOffset}
 use Rattle.times.specs.declared.time.TimeOffset.the-variants.{Given, NotGiven}
 use Rattle.relative.specs.Relative.{direction, rounded, second-words, second-word, signed-seconds, seconds, days, units, stripped, in-unit, displaced, displacement}
 use Rattle.relative.specs.Relative.{parse as relative-parse}

@@ -1,15 +1,15 @@
 -- A written moment and a number of seconds behind it: `2024-03-13 09:30:00.000000000+00:00 -5 seconds` is read as exactly these two items,
 -- and the moment alone as one. The numbers are any rows of digits whose values are in range. Assumes nothing.
 use native.Mathlib.Omega.{arith}
-use borrow.Author.Tests.{leb-true, lt-leb, lt-ltb, le-ltb, ne-eqb}
-use Prim.Native.Nat.{ℕ, zero, suc, _-_, _^_, _<_, _≤_}
-use mathlib.Core.Path.{_≡_, refl, sym, ap, _∙_}
+use borrow.Author.Tests.{leb-true, lt-leb, ne-eqb}
+use Prim.Native.Nat.{ℕ, suc, _-_, _^_, _<_}
+use mathlib.Core.Path.{_≡_, refl, ap}
 use mathlib.Core.List.{List, [], _∷_, _++_, append-assoc}
 use mathlib.Core.Bool.{Bool, true, false}
-use lib.ListN.{length, drop, length-drop, length-append}
+use lib.ListN.{length, length-append}
 use lib.Dec.{leb, eqb}
-use Rattle.primitive.specs.Text.{lower, lowered, bytes, blank, digit, letter, starts}
-use Rattle.primitive.specs.Primitive.{space, decimal, same}
+use Rattle.primitive.specs.Text.{lower, lowered, bytes, blank, digit, letter}
+use Rattle.primitive.specs.Primitive.{decimal, same}
 use Rattle.primitive.specs.Epoch.{padded, nanoseconds}
 use Rattle.primitive.specs.Ordinal.{signed}
 use Rattle.dates.specs.Date.{months}
@@ -22,12 +22,12 @@ use Rattle.relative.specs.Relative.{rounded}
 use Rattle.relative.specs.Relative.{parse as parse-relative}
 use Rattle.relative.specs.declared.Relative.the-variants.{Seconds}
 use Rattle.items.specs.Combined.{starts-with-meridiem}
-use Rattle.items.specs.Items.{iso-date, parse-item, ended, itemsFrom, parse-items}
+use Rattle.items.specs.Items.{iso-date, parse-item, ended, parse-items}
 use Rattle.items.specs.declared.Item.{Item}
 use Rattle.items.specs.declared.Item.the-variants as item
 use Rattle.items.specs.declared.Slot.{Slot}
-use Rattle.forms.proofs.Walk.{Reads, Fails, Spaces, first, said, not-behind-space}
-use Rattle.forms.proofs.Leaves.{head, plain, tag-else, number-head, number-still, still, blanks, signOf, seconds-read, fractional-read}
+use Rattle.forms.proofs.Walk.{Reads, Fails, Spaces, first, said}
+use Rattle.forms.proofs.Leaves.{head, plain, number-head, number-still, still, blanks, signOf, fractional-read}
 use Rattle.primitive.proofs.Rows.{all, halves, Number}
 use Rattle.forms.proofs.Leaves.{signed as sign-still}
 use Rattle.forms.proofs.Tables.{lacks}

@@ -1,18 +1,17 @@
 -- The numbers of an i64 by `raised`: their order, sums and differences are those of naturals, which `omega` decides.
 -- Assumes nothing.
-use Prim.Native.Nat.{ℕ, zero, suc, _+_, _-_, _<_, _≤_}
-use mathlib.Core.Path.{_≡_, refl, sym, ap, ap₂, _∙_}
+use Prim.Native.Nat.{ℕ, suc, _+_, _-_, _<_, _≤_}
+use mathlib.Core.Path.{_≡_, refl, sym, ap₂, _∙_}
 use mathlib.Core.Bool.{Bool, true, false, not}
 use native.Mathlib.Omega.{arith}
 use lib.Dec.{ltb, leb}
-use lib.IntN.{ℤ, pos, negsuc, subℕ, _+ℤ_, _-ℤ_, _*ℤ_}
+use lib.IntN.{ℤ, pos, negsuc, subℕ, _+ℤ_, _-ℤ_}
 use lib.Signed.{mag, ltZ, leZ}
 use mir.Syntax.{w64}
 use mir.Val.{SFits}
 use borrow.Author.Tests.{ltb-true, ltb-false, lt-ltb, le-ltb, leb-true, leb-false, le-leb, lt-leb}
 use Rattle.integers.proofs.Differences.{untrue, is-pos, is-neg, Shape, up, down, shape, diff-eq, diff-add, diff-sub, diff-pos}
-use Rattle.integers.specs.Integers.{raised, inI64, inI32, fitsIf, sum, product}
-use Rattle.integers.specs.declared.Checked.{Checked}
+use Rattle.integers.specs.Integers.{raised, inI64, inI32, fitsIf}
 use Rattle.integers.specs.declared.Checked.the-variants.{Fits, Overflow}
 
 -- a number of the range is its raised number less 2^63

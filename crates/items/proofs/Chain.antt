@@ -1,7 +1,6 @@
 -- How an opened answer of this crate goes on in a chain of readers. Assumes nothing.
 use Prim.Native.Nat.{ℕ}
-use mathlib.Core.Path.{_≡_, refl, sym, ap, _∙_}
-use mathlib.Core.List.{List}
+use mathlib.Core.Path.{_≡_, sym, ap, _∙_}
 use Rattle.primitive.specs.Answer.{Answer, matched, none, stop, andThen, orElse}
 use Rattle.primitive.specs.Primitive.{placeAnswer}
 use Rattle.primitive.specs.declared.ReadPlace.{ReadPlace}

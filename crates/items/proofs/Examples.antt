@@ -4,9 +4,9 @@ use Prim.Native.String.{String}
 use mathlib.Core.Path.{_≡_, refl}
 use mathlib.Core.List.{List, [], _∷_}
 use mathlib.Core.Bool.{Bool, true, false}
-use lib.IntN.{ℤ, pos, negsuc}
+use lib.IntN.{pos, negsuc}
 use Rattle.extended.specs.Calendar.{leap, monthDays}
-use Rattle.primitive.specs.Answer.{Answer, Reader, matched, none, stop}
+use Rattle.primitive.specs.Answer.{Answer, matched, none, stop}
 use Rattle.primitive.specs.Text.{lower, lowered, bytes, blank, digit, letter, run, past, some, starts, tag}
 use Rattle.primitive.specs.Primitive.{multispace0, multispace1, closing, inside, comment, no-digit, sign, ignored-hyphen-or-plus, ignored, skip, space, decimal, parse-uint, dec-uint-str, dec-uint, colon, plus-or-minus, alpha1, same, named}
 use Rattle.primitive.specs.Epoch.{padded, nanoseconds, point-or-comma, fraction, sec-and-nsec}

@@ -1,7 +1,5 @@
 -- A date and a time in one item, as in items/combined.rs. 29.5: "The ISO 8601 date and time of day extended format consists of an ISO 8601
 -- date, a 'T' character separator, and an ISO 8601 time of day. This format is also recognized if the 'T' is replaced by a space."
-use Prim.Native.Nat.{ℕ}
-use mathlib.Core.List.{List}
 use Rattle.primitive.specs.Answer.{Answer, Reader, matched, none, stop, _>>=_, _>>_, _<|>_, pure}
 use Rattle.primitive.specs.Text.{char, quoted}
 use Rattle.primitive.specs.Primitive.{multispace0, space, spaced}

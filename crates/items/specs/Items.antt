@@ -10,11 +10,23 @@ use Rattle.dates.specs.declared.date.Date.{Date}
 use Rattle.times.specs.Time as time
 use Rattle.relative.specs.Relative as relative
 use Rattle.items.specs.Combined.{parse-time-after-date}
+use Rattle.items.specs.declared.Day.{Day}
+use Rattle.items.specs.declared.Day.the-variants as day
 use Rattle.items.specs.declared.Item.{Item}
 use Rattle.items.specs.declared.Item.the-variants as item
 use Rattle.items.specs.declared.Slot.{Slot}
 use Rattle.items.specs.declared.ReadItem.{ReadItem}
 use Rattle.items.specs.declared.ReadItem.the-variants as got
+
+-- days from Monday, 0
+abbrev pub dayIndex : Day → ℕ
+dayIndex day.Monday = 0
+dayIndex day.Tuesday = 1
+dayIndex day.Wednesday = 2
+dayIndex day.Thursday = 3
+dayIndex day.Friday = 4
+dayIndex day.Saturday = 5
+dayIndex day.Sunday = 6
 
 -- Document 01, items/combined.rs: a date followed by no time is a date alone.
 unfoldable pub date-time-item : Date → Reader Item

@@ -7,6 +7,8 @@ use dates::date::Date;
 use relative::Relative;
 use times::offset::Offset;
 use times::time::Time;
+ghost use mathlib.Core.Path.{_≡_};
+ghost use Rattle.items.specs.Items.{dayIndex};
 
 pub enum Day {
     Monday,
@@ -51,4 +53,19 @@ pub enum ReadItem {
 // One item of many.
 pub struct Slot {
     pub item: Item,
+}
+
+// Days from Monday, 0.
+pub fn day_index(day: Day) -> u8
+    ensures { λ r. ⌜ r ≡ dayIndex day ⌝ }
+{
+    match day {
+        Day::Monday => 0,
+        Day::Tuesday => 1,
+        Day::Wednesday => 2,
+        Day::Thursday => 3,
+        Day::Friday => 4,
+        Day::Saturday => 5,
+        Day::Sunday => 6,
+    }
 }

@@ -8,9 +8,7 @@
 
 use builder::Built;
 use extended::ExtendedDateTime;
-ghost use mathlib.Core.Path.{_≡_};
-ghost use Prim.Native.Nat.{_≤_, _<_};
-ghost use lib.ListN.{length};
+ghost use Prim.Native.Nat.{_<_};
 
 // Where the program stands between two turns.
 struct Standing {

@@ -1,9 +1,9 @@
 -- What the line program prints for the whole of its input: document 01, 'Packet and text'.
-use Prim.Native.Nat.{ℕ, suc, _-_}
+use Prim.Native.Nat.{ℕ, _-_}
 use mathlib.Core.Bool.{Bool, _&&_}
 use mathlib.Core.List.{List, [], _∷_, _++_}
-use lib.Dec.{ltb, eqb}
-use lib.ListN.{length, take, drop}
+use lib.Dec.{ltb}
+use lib.ListN.{length}
 use lib.IntN.{pos}
 use Rattle.extended.specs.Extended.{make, date, time}
 use Rattle.extended.specs.declared.ExtendedDateTime.{ExtendedDateTime}

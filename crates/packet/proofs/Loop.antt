@@ -11,9 +11,8 @@ use borrow.Author.Tests.{lt-leb, le-leb, leb-true}
 use Rattle.extended.specs.Outcome as outcome
 use Rattle.extended.specs.Outcome.{Outcome, accepted, refused, check}
 use Rattle.extended.specs.declared.ExtendedDateTime.{ExtendedDateTime}
-use Rattle.primitive.specs.Text.{lowered, digit, past}
+use Rattle.primitive.specs.Text.{digit, past}
 use Rattle.primitive.proofs.Forward.{run-le}
-use Rattle.primitive.proofs.Lowered.{length-lowered}
 use Rattle.items.specs.declared.Item.{Item}
 use Rattle.items.specs.declared.Slot.{Slot}
 use Rattle.extended.specs.Placed.{Placed, fine, refusal, placed, _>>=_, _>>_}

@@ -10,7 +10,7 @@ use lib.Dec.{leb, eqb}
 use lib.ListN.{length, length-drop, take, drop}
 use lib.Seq.{take-all}
 use Rattle.primitive.specs.Text.{lowered}
-use Rattle.extended.specs.Outcome.{Outcome, accepted, refused, number, check, _>>=_, _>>_}
+use Rattle.extended.specs.Outcome.{Outcome, accepted, refused, number, check, _>>_}
 use Rattle.extended.specs.Extended.{test}
 use Rattle.extended.specs.declared.ExtendedDateTime.{ExtendedDateTime}
 use Rattle.extended.proofs.Outcomes.{refused-by, passed}

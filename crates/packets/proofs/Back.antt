@@ -1,14 +1,13 @@
 -- The fields of an item are that item again. Assumes nothing.
 use native.Mathlib.Omega.{arith}
-use Prim.Native.Nat.{ℕ, zero, suc, _+_, _-_, _<_}
-use mathlib.Core.Path.{_≡_, refl, sym, ap, _∙_}
-use mathlib.Core.Bool.{Bool, true, false, _&&_}
-use lib.Dec.{ltb, leb, eqb}
+use Prim.Native.Nat.{ℕ, _-_}
+use mathlib.Core.Path.{_≡_, refl, ap}
+use mathlib.Core.Bool.{Bool, true, false}
+use lib.Dec.{leb, eqb}
 use lib.IntN.{ℤ, pos, negsuc}
-use lib.Signed.{mag, leZ}
 use borrow.Author.Tests.{lt-ltb, le-ltb, ltb-true, leb-true, eq-eqb}
 use Rattle.integers.specs.Integers.{inI32, inI64}
-use Rattle.extended.specs.Outcome.{Outcome, accepted}
+use Rattle.extended.specs.Outcome.{accepted}
 use Rattle.dates.specs.declared.date.Date.{Date}
 use Rattle.dates.specs.declared.date.DateYear.{DateYear}
 use Rattle.dates.specs.declared.date.DateYear.the-variants as year
@@ -25,9 +24,9 @@ use Rattle.items.specs.declared.Weekday.{Weekday}
 use Rattle.items.specs.declared.Pure.{Pure}
 use Rattle.items.specs.declared.Item.{Item}
 use Rattle.items.specs.declared.Item.the-variants as item
-use Rattle.builder.specs.Building.{dayIndex}
+use Rattle.items.specs.Items.{dayIndex}
 use Rattle.primitive.proofs.Rows.{halves}
-use Rattle.fields.specs.Fields.{signed, unsigned, small, yearOf, dateOf, offsetOf, timeOffsetOf, timeOf, laterDay, dayOf, weekdayOf, laterUnit, unitOf, relativeOf, laterKind, itemOf, inRange, yearFlag, yearField, signFlag, offsetFlags, hoursField, minutesField, withDate, withTime, ofZone, ofRelative, ofPure, counted, fieldsOf, sameDate, sameTime, sameRest, sameLater, same, fitting, unpacked, digitsUsed}
+use Rattle.fields.specs.Fields.{signed, unsigned, small, yearOf, dateOf, timeOffsetOf, timeOf, laterDay, dayOf, weekdayOf, laterUnit, unitOf, relativeOf, laterKind, itemOf, inRange, withDate, withTime, ofZone, ofRelative, ofPure, counted, fieldsOf, sameDate, sameTime, sameRest, sameLater, same, fitting, unpacked}
 use Rattle.fields.specs.declared.Fields.{Fields}
 use Rattle.packets.specs.Writing.{amount, amounts}
 

@@ -7,7 +7,7 @@ use mathlib.Core.List.{List, [], _∷_}
 use lib.Dec.{leb, eqb}
 use lib.ListN.{length, length-drop, drop, getD}
 use lib.Seq.{drop-cons}
-use borrow.Author.Tests.{eqb-true, leb-true}
+use borrow.Author.Tests.{eqb-true}
 use Rattle.extended.specs.Outcome as outcome
 use Rattle.extended.specs.Outcome.{Outcome, accepted, refused, number, check}
 use Rattle.primitive.proofs.Rows.{halves}
@@ -17,7 +17,7 @@ use Rattle.extended.specs.Placed as placing
 use Rattle.extended.specs.Placed.{Placed, fine, refusal, _>>=_, _>>_}
 use Rattle.fields.specs.Fields.{little, fieldsFrom, fieldsAt, itemOf, fieldsOf, inRange, sameDate, sameTime, sameRest, sameLater, same, fitting, unpacked, digitsUsed}
 use Rattle.fields.specs.declared.Fields.{Fields}
-use Rattle.packet.specs.Packet.{count, digitsPlace, header, digits, digitsStand, itemAt, itemsFrom, packetItems}
+use Rattle.packet.specs.Packet.{count, header, digits, digitsStand, itemAt, itemsFrom, packetItems}
 use Rattle.packet.proofs.Steps.{items-at, digits-at, exact}
 use Rattle.packets.specs.Writing as writing
 use Rattle.packets.specs.Writing.{fields, items, packet}

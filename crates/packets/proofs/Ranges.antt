@@ -1,21 +1,20 @@
 -- Every item of a text is one that a packet holds. Assumes nothing.
 use native.Mathlib.Omega.{arith}
 use Prim.Native.Nat.{ℕ, zero, suc, _+_, _-_, _/_, _%_, _^_, _<_, _≤_}
-use Prim.Native.String.{String}
 use mathlib.Core.Path.{_≡_, refl, sym}
-use mathlib.Core.Bool.{Bool, true, false, not, _&&_}
+use mathlib.Core.Bool.{Bool, true, false, not}
 use mathlib.Core.List.{List, [], _∷_, _++_}
 use lib.Dec.{ltb, leb, eqb}
 use lib.ListN.{length, take, drop}
 use lib.Seq.{slice}
 use lib.IntN.{ℤ, pos, negsuc, negℤ, natAbs, _*ℤ_}
-use lib.Signed.{mag, leZ}
+use lib.Signed.{mag}
 use borrow.Author.Tests.{lt-ltb, ltb-true, le-leb, leb-true}
 use Rattle.integers.specs.Integers.{inI32, inI64}
-use Rattle.primitive.specs.Answer.{Answer, Reader, matched, none, stop, if, andThen, _>>=_, optional}
+use Rattle.primitive.specs.Answer.{Answer, Reader, matched, none, stop, if, optional}
 use Rattle.primitive.specs.Text.{byte}
 use Rattle.primitive.specs.Primitive.{space, spaced, decimal, parse-uint, dec-uint, dec-uint-str, colon, sign, plus-or-minus, alpha1, named}
-use Rattle.primitive.specs.Epoch.{sec-and-nsec, secAndNsecAnswer}
+use Rattle.primitive.specs.Epoch.{sec-and-nsec}
 use Rattle.primitive.specs.Ordinal.{signed, ordinals, text-ordinal, signed-number, number-ordinal, ordinal}
 use Rattle.primitive.specs.declared.SecAndNsec.{SecAndNsec}
 use Rattle.primitive.specs.declared.ReadSecAndNsec.the-variants as read-seconds
@@ -38,7 +37,7 @@ use Rattle.times.specs.declared.time.SecNsec.{SecNsec}
 use Rattle.times.specs.declared.time.Time.{Time}
 use Rattle.times.specs.declared.time.TimeOffset.{TimeOffset}
 use Rattle.times.specs.declared.time.TimeOffset.the-variants as offset
-use Rattle.packets.proofs.Gives.{Said, Gives, then-gives, after, next, unless-gives, or-gives, pure-gives, optional-gives, verify-gives, certain-gives, if-gives, spaced-gives, attempt-gives, by-match, of-match, Every, no-more, one-more, named-gives}
+use Rattle.packets.proofs.Gives.{Gives, then-gives, after, next, unless-gives, or-gives, pure-gives, optional-gives, verify-gives, certain-gives, if-gives, spaced-gives, attempt-gives, by-match, of-match, Every, no-more, one-more, named-gives}
 use Rattle.items.specs.Combined.{separator, starts-with-meridiem, unless-meridiem, iso-alone, combined-time, parse-time-after-date}
 use Rattle.items.specs.Items.{date-time-item, dated-item, iso-date, iso-item, date-item, time-item, relative-item, time-or-relative, other-item, parse-item, ended, further, itemsFrom, parse-items}
 use Rattle.items.specs.declared.combined.DateTime.{DateTime}

@@ -1,15 +1,14 @@
 -- The packet of a list of items is read as that list. Assumes nothing.
 use native.Mathlib.Omega.{arith}
-use Prim.Native.Nat.{ℕ, zero, suc, _+_, _*_, _/_, _<_, _≤_}
+use Prim.Native.Nat.{ℕ, zero, suc, _+_, _*_, _/_, _≤_}
 use native.Mathlib.Nat.{zero-add}
-use mathlib.Core.Path.{_≡_, refl, sym, ap, _∙_}
+use mathlib.Core.Path.{_≡_, refl, sym, ap}
 use mathlib.Core.Bool.{Bool, true}
 use mathlib.Core.List.{List, [], _∷_}
 use lib.Dec.{leb}
 use lib.ListN.{length, drop, length-drop}
 use borrow.Author.Tests.{le-leb, lt-leb, leb-true, eq-eqb}
-use Rattle.extended.specs.Outcome as outcome
-use Rattle.extended.specs.Outcome.{accepted, check}
+use Rattle.extended.specs.Outcome.{accepted}
 use Rattle.extended.specs.Extended.{test}
 use Rattle.extended.specs.declared.ExtendedDateTime.{ExtendedDateTime}
 use Rattle.primitive.specs.Text.{lower, lowered, digit, run, past}
@@ -18,9 +17,9 @@ use Rattle.items.specs.declared.Item.{Item}
 use Rattle.items.specs.declared.Item.the-variants as item
 use Rattle.items.specs.declared.Slot.{Slot}
 use Rattle.extended.specs.Placed as placing
-use Rattle.extended.specs.Placed.{Placed, fine, _>>=_, _>>_}
+use Rattle.extended.specs.Placed.{fine, _>>_}
 use Rattle.builder.specs.Building.{build}
-use Rattle.fields.specs.Fields.{little, fieldsFrom, fieldsAt, fieldsOf, unpacked, pureInRange, inRange, digitsUsed}
+use Rattle.fields.specs.Fields.{little, fieldsOf, pureInRange, inRange, digitsUsed}
 use Rattle.fields.specs.declared.Fields.{Fields}
 use Rattle.packet.specs.Packet.{count, digitsPlace, header, digits, digitsStand, itemAt, itemsFrom, packetItems, buildItems, readPacket}
 use Rattle.packets.specs.Writing.{number, fields, items, packet, amounts}

@@ -1,7 +1,7 @@
 -- The packet of a list of items: document 01, 'Packet and text'.
 use Prim.Native.Nat.{ℕ, zero, suc, _+_, _*_, _/_, _%_}
 use mathlib.Core.Bool.{Bool, true}
-use mathlib.Core.List.{List, [], _∷_, _++_}
+use mathlib.Core.List.{List, [], _∷_}
 use lib.ListN.{length}
 use Rattle.integers.specs.Integers.{inI32, inI64}
 use Rattle.relative.specs.declared.Relative.{Relative}

@@ -3,7 +3,7 @@
 use borrow.Author.Needs.{needs}
 use native.Mathlib.Omega.{arith}
 use borrow.Author.Tests.{leb-true, ltb-true}
-use Prim.Native.Nat.{ℕ, zero, suc, _+_, _-_, _*_, _^_, _<_, _≤_}
+use Prim.Native.Nat.{ℕ, zero, suc, _+_, _-_, _^_, _<_, _≤_}
 use Prim.Native.String.{String}
 use native.Mathlib.Nat.{zero-add, suc-add, pow-suc, mul-le-mul-right}
 use mathlib.Core.Path.{_≡_, refl, sym, ap, _∙_}
@@ -12,7 +12,7 @@ use mathlib.Core.Bool.{Bool, true, false, _&&_}
 use lib.ListN.{length, take, drop, length-drop, length-take}
 use lib.Seq.{slice}
 use lib.Dec.{ltb, leb}
-use lib.IntN.{ℤ, pos, negsuc, negℤ}
+use lib.IntN.{ℤ, negℤ}
 use lib.Signed.{mag}
 use Rattle.primitive.specs.Answer.{Answer, matched, none, stop, if, andThen, orElse}
 use Rattle.primitive.specs.Text.{bytes, lowered, digit, letter, run, past, some}

@@ -1,6 +1,5 @@
 -- The laws of the loop over a text's items: what is left to read from a place on, behind the items that are heeded. Assumes nothing.
 use native.Mathlib.Omega.{arith}
-use native.Mathlib.Nat.{add-zero}
 use native.Mathlib.Numerals.{add-one}
 use Prim.Native.Nat.{ℕ, zero, suc, _+_, _-_, _<_, _≤_}
 use mathlib.Core.Path.{_≡_, refl, sym, _∙_}
@@ -8,14 +7,13 @@ use mathlib.Core.Bool.{Bool, true, false}
 use mathlib.Core.List.{List, [], _∷_, _++_}
 use lib.ListN.{length, length-append, take, set}
 use lib.Dec.{ltb}
-use borrow.Author.Needs.{needs}
 use borrow.Author.Tests.{lt-ltb, le-ltb}
 use Rattle.primitive.specs.Answer.{Answer, matched, none, stop, if}
 use Rattle.primitive.specs.Text.{lowered}
 use Rattle.primitive.specs.Primitive.{space}
 use Rattle.primitive.proofs.Lowered.{length-lowered}
 use Rattle.extended.specs.declared.ExtendedDateTime.{ExtendedDateTime}
-use Rattle.items.specs.Items.{itemAnswer, parse-item, Parsed, ended, further, itemsFrom, parse-items}
+use Rattle.items.specs.Items.{itemAnswer, parse-item, ended, further, itemsFrom, parse-items}
 use Rattle.items.specs.declared.Item.{Item}
 use Rattle.items.specs.declared.Slot.{Slot}
 use Rattle.items.specs.declared.ReadItem.{ReadItem}

@@ -9,7 +9,6 @@ use Rattle.primitive.specs.Primitive.{multispace0, closing, inside, comment, no
 use Rattle.primitive.specs.Epoch.{padded, nanoseconds, point-or-comma, fraction, sec-and-nsec}
 use Rattle.primitive.specs.Ordinal.{signed, signed-number, ordinals, text-ordinal, number-ordinal, ordinal}
 use Rattle.relative.specs.Relative.{direction, rounded, second-words, second-word, signed-seconds, seconds, days, units, stripped, in-unit, displaced, displacement, parse}
-use Rattle.relative.specs.declared.Relative.{Relative}
 use Rattle.relative.specs.declared.Relative.the-variants.{Years, Months, Days, Hours, Minutes, Seconds}
 
 -- what a reader makes of a quoted text, from its start

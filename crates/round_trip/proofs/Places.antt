@@ -18,7 +18,7 @@ use Rattle.items.specs.Items.{Parsed, ended, further, itemsFrom, parse-item, pa
 use Rattle.items.specs.declared.Item.{Item}
 use Rattle.items.specs.declared.Slot.{Slot}
 use Rattle.forms.proofs.ItemsForward.{parse-item-forward}
-use Rattle.extended.specs.Placed.{Placed, fine, refusal, placed, placeOf, _>>=_, _>>_}
+use Rattle.extended.specs.Placed.{fine, refusal, placed, placeOf, _>>=_, _>>_}
 use Rattle.builder.specs.Building.{build}
 use Rattle.builder.proofs.Places.{first-step, at-place, build-place}
 use Rattle.reading.specs.Reading.{ascii, asciiEnd, itemsOf, buildText, readLowered, readText}

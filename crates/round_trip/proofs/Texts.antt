@@ -20,7 +20,7 @@ use Rattle.items.specs.Items.{ended, parse-items}
 use Rattle.items.specs.declared.Item.the-variants as item
 use Rattle.items.specs.declared.Slot.{Slot}
 use Rattle.forms.proofs.TwoItems.{shiftText, one-item-text, two-items-text, both-lowered}
-use Rattle.extended.specs.Placed.{fine, placed, _>>=_}
+use Rattle.extended.specs.Placed.{fine, placed}
 use Rattle.builder.specs.Building.{build}
 use Rattle.writer.specs.Writer.{digits, wholeMinutes, textOf}
 use Rattle.writer.proofs.Digits.{all-join, all-also, digits-value, digits-number, digits-length, width-most}

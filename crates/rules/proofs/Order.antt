@@ -3,18 +3,15 @@ use native.Mathlib.Omega.{arith}
 use native.Mathlib.Nat.{add-zero}
 use native.Mathlib.Numerals.{add-one}
 use Prim.Native.Nat.{ℕ, zero, suc, _+_, _<_, _≤_}
-use mathlib.Core.Path.{_≡_, refl, sym, ap, _∙_}
+use mathlib.Core.Path.{_≡_, refl, sym}
 use mathlib.Core.List.{List, [], _∷_, _++_, append-nil, append-assoc}
 use lib.ListN.{length, take, set}
 use lib.Seq.{take-set-le, take-suc-set}
 use Rattle.extended.specs.Outcome.{Outcome, accepted, refused}
 use Rattle.items.specs.declared.Slot.{Slot}
-use Rattle.extended.specs.Placed as placed
-use Rattle.extended.specs.Placed.{Placed, fine, refusal}
-use Rattle.rules.specs.Rules.{empty, setItem, rulePlace, onward, gather, heed, relativeOf, relatives}
+use Rattle.rules.specs.Rules.{empty, setItem, onward, gather, heed, relativeOf, relatives}
 use Rattle.rules.specs.declared.DateTimeBuilder.{DateTimeBuilder}
 use Rattle.rules.specs.declared.RelativePlace.{RelativePlace}
-use Rattle.rules.specs.declared.Found.{Found}
 
 gather-more : (digits : List ℕ) (i : ℕ) (b : DateTimeBuilder) (xs : List Slot) (x : Slot) → gather digits i b (xs ++ (x ∷ [])) ≡ heed digits (i + length xs) (x .item) (gather digits i b xs)
 unfolding gather heed

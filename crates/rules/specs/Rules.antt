@@ -4,7 +4,7 @@ use Prim.Native.Nat.{ℕ, suc, _+_, _-_}
 use mathlib.Core.Bool.{Bool, true, false, not, _&&_, _||_}
 use mathlib.Core.List.{List, [], _∷_, _++_}
 use lib.Dec.{leb, eqb}
-use lib.ListN.{length, take}
+use lib.ListN.{length}
 use lib.Seq.{slice}
 use Rattle.extended.specs.Outcome.{Outcome, accepted, refused, check, _>>=_, _>>_}
 use Rattle.primitive.specs.Answer.{Answer, matched, none, stop, if}

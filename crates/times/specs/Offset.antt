@@ -1,8 +1,7 @@
 -- Offsets from UTC, in the order of items/offset.rs. 29.3: "The time may alternatively be followed by a time zone correction, expressed
 -- as 'SHHMM', where S is '+' or '-', HH is a number of zone hours and MM is a number of zone minutes."
 use Prim.Native.Nat.{ℕ, _+_, _-_, _*_, _/_, _%_}
-use mathlib.Core.List.{List}
-use mathlib.Core.Bool.{Bool, true, false, _&&_, _||_, not}
+use mathlib.Core.Bool.{Bool, true, _&&_, _||_, not}
 use lib.ListN.{length}
 use lib.Dec.{ltb, leb, eqb}
 use lib.IntN.{ℤ, pos}

@@ -7,7 +7,6 @@ use Rattle.primitive.specs.Text.{quoted}
 use Rattle.primitive.specs.Primitive.{spaced, colon, dec-uint}
 use Rattle.primitive.specs.Epoch.{sec-and-nsec}
 use Rattle.times.specs.Offset.{certain, time-zone-correction, timezone-offset}
-use Rattle.times.specs.declared.offset.Offset.{Offset}
 use Rattle.times.specs.declared.time.Time.{Time}
 use Rattle.times.specs.declared.time.TimeOffset.{TimeOffset}
 use Rattle.times.specs.declared.time.TimeOffset.the-variants.{Given, NotGiven}

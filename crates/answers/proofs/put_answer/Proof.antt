@@ -1,5 +1,4 @@
 -- `answers::put_answer` meets its contract, by the two cases of what was built. Assumes nothing.
-use Rattle.answers.specs.Answers.{lineAnswer}
 use borrow.Author.Needs.{needs}
 use Rattle.answers.proofs.Putting.{answer-record, answer-refusal}
 use Rattle.answers.proofs.put_answer.Statement.{statement}

@@ -2,10 +2,10 @@
 -- wanted. Assumes nothing.
 use native.Mathlib.Omega.{arith}
 use borrow.Author.Needs.{needs}
-use Prim.Native.Nat.{_+_, _≤_}
+use Prim.Native.Nat.{_≤_}
 use mathlib.Core.Path.{_≡_, _∙_}
 use lib.ListN.{length}
-use Rattle.writer.specs.Writer.{width, digits}
+use Rattle.writer.specs.Writer.{digits}
 use Rattle.writer.proofs.Digits.{digits-length}
 use Rattle.writer.proofs.Filling.{filled, filling, filled-next, filled-done}
 use Rattle.answers.proofs.Putting.{digits-put}

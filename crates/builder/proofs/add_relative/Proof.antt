@@ -8,7 +8,6 @@ use Rattle.builder.proofs.add_relative.Statement.{statement}
 use Rattle.builder.proofs.add_relative.Tie as tie
 use Rattle.extended.specs.Extended.{madeOf, addDays, addHours, addMinutes}
 use Rattle.builder.proofs.Cases.{cases, days-added, hours-added, minutes-added}
-use Rattle.builder.specs.Building.{addRelative}
 
 days-fit : (c : tie.After-known-told3) → SFits w32 (c .before .relative3 .given .0 .0)
 days-fit c = search needs

@@ -1,7 +1,6 @@
 -- `add_relatives` is its definition. Assumes nothing.
 use Rattle.builder.proofs.add_relatives.Statement.{statement}
 use Rattle.builder.proofs.add_relatives.Tie as tie
-use Rattle.builder.proofs.Cases.{cases}
 use borrow.Author.Needs.{needs}
 use native.Mathlib.Omega.{arith}
 use Prim.Native.Nat.{_≤_, _-_}

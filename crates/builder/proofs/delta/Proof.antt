@@ -21,6 +21,9 @@ weeks-fit c = search needs
 day-index-requires : tie.Need-day-index-requires
 day-index-requires c κs = tt
 
+cast-target : tie.Need-cast-target
+cast-target c = search needs
+
 weeks-requires : tie.Need-weeks-requires
 weeks-requires c κs = tt
 
@@ -39,4 +42,4 @@ returns c =
 pub delta-spec : {M : Type 1} → statement M
 delta-spec =
     tie.close
-    (tie.spec day-index-requires weeks-requires ahead-requires weekday-sum-requires returns)
+    (tie.spec day-index-requires cast-target weeks-requires ahead-requires weekday-sum-requires returns)

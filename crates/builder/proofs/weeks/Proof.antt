@@ -3,12 +3,12 @@ use native.Mathlib.Omega.{arith}
 use Prim.Native.Nat.{_-_, _<_}
 use mathlib.Core.Path.{_≡_, sym, _∙_}
 use lib.IntN.{pos}
-use mir.Syntax.{w32, w64}
+use mir.Syntax.{w64}
 use mir.Val.{SFits}
 use mir.Facts.{toZ-ofZ, toZ-pos}
 use borrow.Author.Needs.{needs}
 use Rattle.integers.specs.Integers.{naturalOf}
-use Rattle.builder.specs.Building.{weeks, nearer}
+use Rattle.builder.specs.Building.{weeks}
 use Rattle.builder.proofs.Weekdays.{natural-is, nearer-below, nearer-less}
 use Rattle.builder.proofs.weeks.Statement.{statement}
 use Rattle.builder.proofs.weeks.Tie as tie

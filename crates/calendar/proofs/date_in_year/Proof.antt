@@ -2,7 +2,6 @@
 use native.Mathlib.Omega.{arith}
 use borrow.Author.Needs.{needs}
 use Rattle.calendar.proofs.Counting.{LineDate, byte-small, line-date}
-use mir.Val.{boolByte}
 use Rattle.calendar.proofs.date_in_year.Statement.{statement}
 use Rattle.calendar.proofs.date_in_year.Tie as tie
 

@@ -21,8 +21,8 @@ wide-fits c = search needs
 amount-is : (c : tie.After-unsigned) → c .unsigned .result ≡ unsigned (c .before .before .before .before .args .weekday .offset)
 amount-is c = rw (toZ-ofZ (wide-fits (c .before)), wide (c .before)) at (c .unsigned .ensures)
 
-day-field-requires : tie.Need-day-field-requires
-day-field-requires c κs = tt
+day-index-requires : tie.Need-day-index-requires
+day-index-requires c κs = tt
 
 widen-requires : tie.Need-widen-requires
 widen-requires c κs = search needs
@@ -34,9 +34,9 @@ counted-requires : tie.Need-counted-requires
 counted-requires c κs = tt
 
 returns : tie.Need-returns
-returns c = day-counted _ _ _ _ _ _ _ (c .before .before .before .before .day-field .ensures) (amount-is (c .before)) (c .counted .ensures .0)
+returns c = day-counted _ _ _ _ _ _ _ (c .before .before .before .before .day-index .ensures) (amount-is (c .before)) (c .counted .ensures .0)
 
 pub of-weekday-spec : {M : Type 1} → statement M
 of-weekday-spec =
     tie.close
-    (tie.spec day-field-requires widen-requires unsigned-requires counted-requires returns)
+    (tie.spec day-index-requires widen-requires unsigned-requires counted-requires returns)

@@ -2,7 +2,6 @@
 use Rattle.heeding.proofs.rule_place.Statement.{statement}
 use Rattle.heeding.proofs.rule_place.Tie as tie
 use Rattle.rules.proofs.Cases.{cases}
-use Rattle.rules.specs.Rules.{rulePlace}
 
 returns : tie.Need-returns
 returns c = search cases

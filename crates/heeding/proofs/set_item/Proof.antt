@@ -3,7 +3,6 @@ use borrow.Author.Needs.{needs}
 use Rattle.heeding.proofs.set_item.Statement.{statement}
 use Rattle.heeding.proofs.set_item.Tie as tie
 use Rattle.rules.proofs.Cases.{cases}
-use Rattle.rules.specs.Rules.{setItem}
 
 enum-known-item : tie.Need-enum-known-item
 enum-known-item c = search needs

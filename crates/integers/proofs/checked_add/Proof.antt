@@ -1,6 +1,6 @@
 -- `integers::checked_add` meets its contract: the room above or below `b`, by the sign of `b`, is compared with `a`, which
 -- decides by raised numbers whether the sum fits. Assumes nothing.
-use Prim.Native.Nat.{ℕ, _+_, _<_, _≤_}
+use Prim.Native.Nat.{_+_, _<_, _≤_}
 use mathlib.Core.Path.{_≡_, sym}
 use mathlib.Core.Bool.{true, false}
 use native.Mathlib.Omega.{arith}

@@ -1,7 +1,7 @@
 -- `integers::checked_mul` meets its contract: `a` is at most the quotient of the largest number by the factor, and not below
 -- that of the least, exactly where the product fits. Assumes nothing.
 use Prim.Native.Nat.{ℕ, zero, suc, _+_, _-_, _*_, _/_, _<_, _≤_}
-use mathlib.Core.Path.{_≡_, refl, sym, ap, _∙_}
+use mathlib.Core.Path.{_≡_, sym, ap, _∙_}
 use mathlib.Core.Bool.{true, false}
 use native.Mathlib.Omega.{arith}
 use native.Mathlib.Nat.{div-lt-iff-lt-mul, le-div-iff-mul-le, div-le-self}

@@ -3,9 +3,8 @@ use borrow.Author.Needs.{needs}
 use Rattle.packet.proofs.read_packet.Statement.{statement}
 use Rattle.packet.proofs.read_packet.Tie as tie
 use Rattle.packet.proofs.Steps.{steps, few, exact, all-read}
-use native.Mathlib.Omega.{arith}
 use Prim.Native.Nat.{ℕ, _+_, _*_, _≤_}
-use mathlib.Core.Path.{_≡_, refl, sym, ap, _∙_}
+use mathlib.Core.Path.{_≡_, refl, sym, ap}
 use lib.ListN.{length}
 use Rattle.extended.specs.Outcome.{number}
 use Rattle.packet.specs.Packet.{header}

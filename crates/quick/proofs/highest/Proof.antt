@@ -1,7 +1,6 @@
 -- Where the answer is below 128 every byte is. The invariant: so it is up to `i`. Assumes nothing.
 use Rattle.quick.proofs.highest.Statement.{statement}
 use Rattle.quick.proofs.highest.Tie as tie
-use native.Mathlib.Omega.{arith}
 use borrow.Author.Needs.{needs}
 use Prim.Native.Nat.{_-_, _<_}
 use mathlib.Core.Path.{_≡_, refl}

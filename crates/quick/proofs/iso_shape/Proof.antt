@@ -3,12 +3,9 @@ use borrow.Author.Needs.{needs}
 use Rattle.quick.proofs.iso_shape.Statement.{statement}
 use Rattle.quick.proofs.iso_shape.Tie as tie
 use native.Mathlib.Omega.{arith}
-use mathlib.Core.Path.{_≡_, refl}
-use Prim.Native.Nat.{_<_}
-use lib.ListN.{length}
-use Rattle.primitive.specs.Text.{lower, lowered}
+use mathlib.Core.Path.{refl}
+use Rattle.primitive.specs.Text.{lower}
 use Rattle.primitive.proofs.Lowered.{length-lowered}
-use Rattle.quick.specs.Days.{Iso}
 use Rattle.quick.proofs.Places.{mark}
 use Rattle.quick.proofs.Fronts.{iso-there, clock-there, iso-end, iso-inside, iso-day, iso-clock}
 

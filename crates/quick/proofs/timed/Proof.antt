@@ -4,7 +4,6 @@ use Rattle.quick.proofs.timed.Statement.{statement}
 use Rattle.quick.proofs.timed.Tie as tie
 use native.Mathlib.Omega.{arith}
 use mathlib.Core.Bool.{true, false}
-use mathlib.Core.Path.{refl}
 use Rattle.quick.proofs.Fronts.{separator-at}
 use Rattle.integers.proofs.Differences.{untrue}
 

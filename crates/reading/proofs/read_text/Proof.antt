@@ -2,7 +2,6 @@
 use Rattle.reading.proofs.read_text.Statement.{statement}
 use Rattle.reading.proofs.read_text.Tie as tie
 use Rattle.reading.proofs.Steps.{steps}
-use Rattle.reading.specs.Reading.{readText}
 
 refusal-requires : tie.Need-refusal-requires
 refusal-requires c κs = tt

@@ -3,7 +3,6 @@ use native.Mathlib.Omega.{arith}
 use Prim.Native.Nat.{_≤_}
 use mathlib.Core.Path.{ap, sym}
 use borrow.Author.Needs.{needs}
-use Rattle.extended.specs.Placed.{placeOf}
 use Rattle.builder.specs.Building.{builtOf}
 use Rattle.builder.specs.declared.Built.{Built}
 use Rattle.hosts.specs.Hosts.{placedAnswer}

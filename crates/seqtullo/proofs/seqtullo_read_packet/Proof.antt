@@ -1,5 +1,5 @@
 -- `seqtullo_read_packet` meets its contract: no place is past the 64 items. Assumes nothing.
-use mathlib.Core.Path.{_≡_, ap, _∙_}
+use mathlib.Core.Path.{ap, _∙_}
 use native.Mathlib.Omega.{arith}
 use Prim.Native.Nat.{_≤_}
 use Rattle.extended.specs.Placed.{placeOf}

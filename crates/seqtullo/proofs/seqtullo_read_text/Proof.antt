@@ -1,5 +1,5 @@
 -- `seqtullo_read_text` meets its contract: no place is past the text. Assumes nothing.
-use mathlib.Core.Path.{_≡_, ap, _∙_}
+use mathlib.Core.Path.{ap, _∙_}
 use Rattle.round_trip.proofs.Places.{place-within}
 use Rattle.hosts.specs.Hosts.{placedAnswer}
 use Rattle.seqtullo.proofs.seqtullo_read_text.Statement.{statement}

@@ -1,10 +1,7 @@
 -- `calendar_replay::numbers::lowered` is safe: -1 less a natural number below 2^63 fits. Assumes nothing.
-use Prim.Native.Nat.{ℕ, _-_, _<_}
-use mathlib.Core.Path.{_≡_, refl, ap}
+use Prim.Native.Nat.{ℕ, _-_}
 use native.Mathlib.Omega.{arith}
-use lib.IntN.{pos, negsuc, _-ℤ_}
 use mir.Syntax.{w64}
-use mir.Val.{SFits}
 use mir.Facts.{toZ-pos}
 use borrow.Author.Needs.{needs}
 use Rattle.integers.proofs.Differences.{below-zero}

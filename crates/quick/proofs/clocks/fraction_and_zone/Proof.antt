@@ -1,5 +1,4 @@
 -- `quick::clocks::fraction_and_zone` meets its contract: what it answers stands behind the digits of the second. Assumes nothing.
-use borrow.Author.Needs.{needs}
 use native.Mathlib.Omega.{arith}
 use mathlib.Core.Logic.{⊎-elim, inl, inr}
 use mathlib.Core.Path.{refl}
