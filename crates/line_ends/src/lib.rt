@@ -2,7 +2,7 @@
 
 ghost use mathlib.Core.Path.{_≡_};
 ghost use mathlib.Core.Bool.{false};
-ghost use Prim.Native.Nat.{_+_, _-_, _≤_, min};
+ghost use Prim.Native.Nat.{_+_, _-_, _≤_};
 ghost use lib.ListN.{length, drop};
 ghost use Rattle.line_ends.specs.Put.{Put};
 ghost use Rattle.line_ends.specs.Lines.{lineLength, kept};
@@ -80,20 +80,11 @@ pub fn keep(buffer: &mut [u8], from: usize, end: usize) -> usize
     if buffer.len() < end {
         return 0;
     }
-    let n = least(end - from, LONGEST_LINE);
+    let n = primitive::min(end - from, LONGEST_LINE);
     let mut i = 0;
     while i < n {
         buffer[i] = buffer[from + i];
         i += 1;
     }
     n
-}
-
-fn least(a: usize, b: usize) -> usize
-    ensures { λ r. ⌜ r ≡ min a b ⌝ }
-{
-    if a < b {
-        return a;
-    }
-    b
 }

@@ -4,6 +4,7 @@
 //
 // The definitions and laws of `spaces`, `numbers` and `words`, which stand on this crate, are here too.
 
+ghost use Prim.Native.Nat.{min};
 ghost use mathlib.Core.Path.{_≡_};
 ghost use lib.Dec.{eqb};
 ghost use Rattle.primitive.specs.Text.{lower, lowered, blank, digit, letter, past, byte, tag};
@@ -225,4 +226,11 @@ fn letters(s: &[u8], at: usize) -> usize
         }
     }
     i
+}
+
+// The smaller of two places.
+pub fn min(a: usize, b: usize) -> usize
+    ensures { λ r. ⌜ r ≡ min a b ⌝ }
+{
+    if a < b { a } else { b }
 }

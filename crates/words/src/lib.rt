@@ -3,7 +3,7 @@
 pub mod ordinal;
 
 ghost use mathlib.Core.Path.{_≡_};
-ghost use Prim.Native.Nat.{_≤_, min};
+ghost use Prim.Native.Nat.{_≤_};
 ghost use lib.ListN.{length};
 ghost use lib.Seq.{slice};
 ghost use Rattle.primitive.specs.Text.{lowered};
@@ -14,14 +14,8 @@ ghost use Rattle.primitive.specs.Primitive.{words, index};
 pub fn find_word(s: &[u8], at: usize, end: usize, table: &[u8]) -> usize
     ensures { λ r. ⌜ r ≡ index (slice at end (lowered (now (s .entry)))) (words (now (table .entry))) ⌝ }
 {
-    let to = min(end, s.len());
-    scan_table(s, min(at, to), to, table)
-}
-
-fn min(a: usize, b: usize) -> usize
-    ensures { λ r. ⌜ r ≡ min a b ⌝ }
-{
-    if a < b { a } else { b }
+    let to = primitive::min(end, s.len());
+    scan_table(s, primitive::min(at, to), to, table)
 }
 
 // The same for a part of the text. `i` is where the word that is gone through stops agreeing with the text: behind `end` where it

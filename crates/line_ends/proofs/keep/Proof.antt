@@ -19,8 +19,8 @@ returns c = search (kept-behind, needs)
 returns-2 : tie.Need-returns-2 Inv-loop μ-loop
 returns-2 c = search (kept-outside, needs)
 
-least-requires : tie.Need-least-requires Inv-loop μ-loop
-least-requires c κs = tt
+min-requires : tie.Need-min-requires Inv-loop μ-loop
+min-requires c κs = tt
 
 loop-holds : tie.Need-loop-holds Inv-loop μ-loop
 loop-holds c = search (moving-start, needs)
@@ -41,7 +41,7 @@ loop-less : tie.Need-loop-less Inv-loop μ-loop
 loop-less c = search needs
 
 loop-again : tie.Need-loop-again Inv-loop μ-loop
-loop-again c = moving-on (c .before .before .loop .inv) (omega (arith, c .before .before .before .least .ensures)) (search needs)
+loop-again c = moving-on (c .before .before .loop .inv) (omega (arith, c .before .before .before .min .ensures)) (search needs)
 
 same-length : tie.Need-same-length Inv-loop μ-loop
 same-length c = search needs
@@ -49,7 +49,7 @@ same-length c = search needs
 returns-3 : tie.Need-returns-3 Inv-loop μ-loop
 returns-3 c =
     let a = c .before .before .before .before .before .before .args in
-    let e = c .before .before .least .ensures in
+    let e = c .before .before .min .ensures in
     moved (c .before .loop .inv) (omega (arith, e)) (a .end) (search needs) (search needs) e (c .loop-test .left)
 
 pub keep-spec : {M : Type 1} → statement M
@@ -60,7 +60,7 @@ keep-spec =
     μ-loop
     returns
     returns-2
-    least-requires
+    min-requires
     loop-holds
     add-buffer
     slice-read-buffer
