@@ -1,5 +1,5 @@
 -- Laws of parts of a text: where a run of bytes ends, what parts a part has, and a byte behind a part. Assumes nothing.
-use Prim.Native.Nat.{ℕ, suc, _+_, _-_, _<_, _≤_}
+use Prim.Native.Nat.{ℕ, _+_, _-_, _<_, _≤_}
 use mathlib.Core.Path.{_≡_, refl, sym, ap, ap₂, _∙_}
 use mathlib.Core.Bool.{Bool, true, false, _&&_}
 use mathlib.Core.List.{List, [], _∷_, _++_}
@@ -11,15 +11,7 @@ use lib.Seq.{slice, length-take-le, take-suc, drop-cons, take-take, take-add, dr
 use borrow.Author.Tests.{ltb-true, eqb-true}
 use Rattle.primitive.specs.Answer.{Answer, matched, none, if}
 use Rattle.primitive.specs.Text.{run, past, some, starts, tag, byte}
-
-run-bound : (p : ℕ → Bool) (l : List ℕ) → run p l ≤ length l
-unfolding run
-run-bound p [] = omega arith
-run-bound p (b ∷ bs) = by (p b) (run-bound p bs)
-  where
-    by : (t : Bool) → run p bs ≤ length bs → if t (suc (run p bs)) 0 ≤ suc (length bs)
-    by true h = omega arith
-    by false h = omega arith
+use Rattle.primitive.proofs.Forward.{run-le}
 
 -- a run that was read is no empty one, and lies within the text
 pub run-ends : (p : ℕ → Bool) (text : List ℕ) (at end : ℕ) (v : List ℕ) → some p text at ≡ matched v end → (at < end) × (end ≤ length text)
@@ -30,7 +22,7 @@ run-ends p text at end v = by (ltb at (at + run p (drop at text))) refl
         (at < end) × (end ≤ length text)
     by true q e =
         let z : at + run p (drop at text) ≡ end = cc in
-        omega (arith, ltb-true, run-bound p (drop at text), length-drop at text)
+        omega (arith, ltb-true, run-le p (drop at text), length-drop at text)
     by false q e = let z : _≡_ {A = ℕ} 0 1 = cc in (omega arith, omega arith)
 
 -- the parts of the part from `at` up to `end`

@@ -1,13 +1,12 @@
 -- Where a match of a date reader ends: never before the place asked, and within the text where that place is. Assumes nothing.
 use Prim.Native.Nat.{ℕ}
 use mathlib.Core.List.{List, [], _∷_, _++_}
-use mathlib.Core.Bool.{Bool, true, false}
 use lib.ListN.{length}
 use lib.Dec.{leb}
-use Rattle.primitive.specs.Answer.{Reader, if, matched, none}
+use Rattle.primitive.specs.Answer.{Reader, matched, none}
 use Rattle.primitive.specs.Text.{byte}
 use Rattle.primitive.specs.Primitive.{multispace1, spaced, dec-uint-str, dec-uint}
-use Rattle.primitive.proofs.Forward.{Forward, none-ends, if-ends, then-forward, next-forward, or-forward, pure-forward, verify-forward, optional-forward, value-forward, tag-forward, named-forward, multispace1-forward, spaced-forward, dec-uint-str-forward, parse-uint-forward, dec-uint-forward, alpha1-forward}
+use Rattle.primitive.proofs.Forward.{Forward, none-ends, if-ends, if-forward, then-forward, next-forward, or-forward, pure-forward, verify-forward, optional-forward, value-forward, tag-forward, named-forward, multispace1-forward, spaced-forward, dec-uint-str-forward, parse-uint-forward, dec-uint-forward, alpha1-forward}
 use Rattle.dates.specs.declared.date.DateYear.the-variants.{Given, Absent}
 use Rattle.dates.specs.Year.{widened, year-from-str, year-str}
 use Rattle.dates.specs.Date.{dateOf, exists, with-year, without-year, Written, written, unwritten, dated, end-of-text, blank-or-end, ended, ended-year, dated-behind, nothing, hyphen, comma, dotted, iso1, five-digits, iso2, us-date, slash-part, us-rest, us, months, word-dot, literal-month, literal1, literal2, literal3, literal, parse-non-iso}
@@ -92,14 +91,10 @@ iso2-forward =
     (λ w. next-forward _ _ (five-digits-forward w)
     (then-forward _ _ (parse-uint-forward 255 _) (λ m. then-forward _ _ (parse-uint-forward 255 _) (λ d. with-year-forward _ m d))))
 
-either-forward : {A : Type 0} (t : Bool) (p q : Reader A) → Forward p → Forward q → Forward (if t p q)
-either-forward true p q h k = h
-either-forward false p q h k = k
-
 us-date-forward : (w : List ℕ) (n : ℕ) (v : Written) → Forward (us-date w n v)
 unfolding us-date
 us-date-forward w n (written v) =
-    either-forward (leb 4 (length w)) _ _ (then-forward _ _ (parse-uint-forward 255 v) (λ d. with-year-forward w n d))
+    if-forward (leb 4 (length w)) _ _ (then-forward _ _ (parse-uint-forward 255 v) (λ d. with-year-forward w n d))
     (then-forward _ _ (parse-uint-forward 255 w) (λ m. with-year-forward v m n))
 us-date-forward w n unwritten = then-forward _ _ (parse-uint-forward 255 w) (λ m. without-year-forward m n)
 

@@ -1,10 +1,10 @@
 -- Where an offset and a time end: never before the place asked, and within the text where that place is. Assumes nothing.
 use Prim.Native.Nat.{ℕ, _+_, _/_, _%_}
-use mathlib.Core.Bool.{Bool, true, false}
+use mathlib.Core.Bool.{Bool}
 use lib.ListN.{length}
 use lib.Dec.{ltb, leb}
 use Rattle.primitive.specs.Answer.{Answer, Reader, matched, none, stop, if}
-use Rattle.primitive.proofs.Forward.{Ends, Forward, none-ends, stop-ends, if-ends, then-forward, next-forward, or-forward, pure-forward, verify-forward, optional-forward, value-forward, spaced-forward, tag-forward, colon-forward, plus-or-minus-forward, dec-uint-forward, dec-uint-str-forward, parse-uint-forward, sec-and-nsec-forward}
+use Rattle.primitive.proofs.Forward.{Ends, Forward, none-ends, stop-ends, if-ends, if-forward, then-forward, next-forward, or-forward, pure-forward, verify-forward, optional-forward, value-forward, spaced-forward, tag-forward, colon-forward, plus-or-minus-forward, dec-uint-forward, dec-uint-str-forward, parse-uint-forward, sec-and-nsec-forward}
 use Rattle.times.specs.Offset.{certain, without, unless, inRange, offset-of, timezone-offset-colon, digits-offset, timezone-offset-colonless, any-offset, signed-fraction, time-zone-correction, timezone-offset}
 use Rattle.relative.specs.Relative.{parse as relative}
 use Rattle.times.specs.Time.{below, hour24, hour12, minute, second, optional-second, optional-minute, optional-correction, hour-offset, clock, iso, meridiem, am-pm-time, parse}
@@ -22,10 +22,6 @@ unless-forward {A = A} p q h text at = go (p text at)
     go (matched v n) = none-ends text at
     go none = h text at
     go stop = h text at
-
-if-forward : {A : Type 0} (t : Bool) (p q : Reader A) → Forward p → Forward q → Forward (if t p q)
-if-forward true p q h k = h
-if-forward false p q h k = k
 
 -- ---- offsets
 

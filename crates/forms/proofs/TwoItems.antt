@@ -118,10 +118,10 @@ module _ (r : Digits) (a : Sound r) {rest : List ℕ} (d : digit (head rest) ≡
 abbrev pub shiftText : Bool → List ℕ → List ℕ
 shiftText negative ns = 32 ∷ (signOf negative ∷ (ns ++ (32 ∷ bytes "seconds")))
 
-by-sign : (negative : Bool) (n : ℕ) → rounded negative (record { sec = n; nsec = 0 }) ≡ Seconds (signed negative n) 0
+pub rounded-signed : (negative : Bool) (n : ℕ) → rounded negative (record { sec = n; nsec = 0 }) ≡ Seconds (signed negative n) 0
 unfolding rounded signed
-by-sign true n = refl
-by-sign false n = refl
+rounded-signed true n = refl
+rounded-signed false n = refl
 
 -- a fact of both signs
 sign-fact : (p : ℕ → Bool) → p 43 ≡ false → p 45 ≡ false → (negative : Bool) → p (signOf negative) ≡ false
@@ -136,7 +136,7 @@ module _ (negative : Bool) {ns : List ℕ} (n : Number ns) (small : decimal ns <
   pub shift-item : Reads parse-item (shiftText negative ns) (item.Relative (Seconds (signed negative (decimal ns)) 0)) []
   unfolding tested lacks months same bytes letter blank
   shift-item =
-      said (ap item.Relative (by-sign negative (decimal ns)))
+      said (ap item.Relative (rounded-signed negative (decimal ns)))
       (signed-seconds (second-unit true) (other-word (bytes "seconds") refl) (no-direction (still (plain refl)) refl refl) refl (32 ∷ []) refl (32 ∷ []) refl n small negative)
 
 -- ---- the two theorems
@@ -181,7 +181,7 @@ digits-then (b ∷ bs) h k =
     let e : lower b ≡ b = rw (lt-leb 65 b (omega arith)) in
     then e (digits-then bs (t .1) k)
 
-sign-lower : (negative : Bool) → lower (signOf negative) ≡ signOf negative
+pub sign-lower : (negative : Bool) → lower (signOf negative) ≡ signOf negative
 unfolding lower
 sign-lower true = refl
 sign-lower false = refl

@@ -5,7 +5,7 @@ use Rattle.primitive.specs.Answer.{Answer, matched, none, stop, andThen, orElse
 use Rattle.primitive.specs.Primitive.{placeAnswer}
 use Rattle.primitive.specs.declared.ReadPlace.{ReadPlace}
 use Rattle.primitive.specs.declared.ReadPlace.the-variants as place
-use Rattle.primitive.proofs.Chain.{then-matched, then-none, then-stop, first-matched, first-none, chain}
+use Rattle.primitive.proofs.Chain.{then-matched, then-none, then-stop, first-matched, first-none, first-stop, chain}
 use Rattle.dates.specs.Date.{dateAnswer}
 use Rattle.dates.specs.declared.date.Date.{Date}
 use Rattle.dates.specs.declared.date.ReadDate.{ReadDate}
@@ -29,10 +29,6 @@ use Rattle.items.specs.declared.combined.ReadDateTime.the-variants as da
 use Rattle.items.specs.declared.Item.{Item}
 use Rattle.items.specs.declared.ReadItem.{ReadItem}
 use Rattle.items.specs.declared.ReadItem.the-variants as got
-
--- a stop passes through a choice
-first-stop : {A : Type 0} (p q : Answer A) → p ≡ stop → stop ≡ orElse p q
-first-stop p q e = rw e
 
 -- Where a date was read.
 module _ (p : Answer Date) (r : ReadDate) (e : dateAnswer r ≡ p) {B : Type 0} (f : Date → ℕ → Answer B) where

@@ -2,7 +2,7 @@
 use native.Mathlib.Omega.{arith}
 use Prim.Native.Nat.{ℕ, zero, suc, _+_, _*_, _/_, _≤_}
 use native.Mathlib.Nat.{zero-add}
-use mathlib.Core.Path.{_≡_, refl, sym, ap}
+use mathlib.Core.Path.{_≡_, refl, sym}
 use mathlib.Core.Bool.{Bool, true}
 use mathlib.Core.List.{List, [], _∷_}
 use lib.Dec.{leb}
@@ -11,8 +11,8 @@ use borrow.Author.Tests.{le-leb, lt-leb, leb-true, eq-eqb}
 use Rattle.extended.specs.Outcome.{accepted}
 use Rattle.extended.specs.Extended.{test}
 use Rattle.extended.specs.declared.ExtendedDateTime.{ExtendedDateTime}
-use Rattle.primitive.specs.Text.{lower, lowered, digit, run, past}
-use Rattle.primitive.proofs.Rows.{all, halves}
+use Rattle.primitive.specs.Text.{lower, lowered, digit, past}
+use Rattle.primitive.proofs.Rows.{all, halves, run-all}
 use Rattle.items.specs.declared.Item.{Item}
 use Rattle.items.specs.declared.Item.the-variants as item
 use Rattle.items.specs.declared.Slot.{Slot}
@@ -40,11 +40,6 @@ InOrder all used (x ∷ xs) = Holds used (x .item) × (used + digitsUsed (x .ite
 
 -- ---- digits
 
-run-whole : (p : ℕ → Bool) (l : List ℕ) → all p l ≡ true → run p l ≡ length l
-unfolding run
-run-whole p [] h = refl
-run-whole p (b ∷ l) h = let t = halves (p b) (all p l) h in rw (t .0) (ap suc (run-whole p l (t .1)))
-
 all-behind : (p : ℕ → Bool) (n : ℕ) (l : List ℕ) → all p l ≡ true → all p (drop n l) ≡ true
 all-behind p zero l h = h
 all-behind p (suc n) [] h = refl
@@ -52,7 +47,7 @@ all-behind p (suc n) (b ∷ l) h = all-behind p n l (halves (p b) (all p l) h .1
 
 stand : (area : List ℕ) (used n : ℕ) → all digit area ≡ true → used + n ≤ length area → digitsStand area used n ≡ true
 unfolding digitsStand past
-stand area used n h k = le-leb (used + n) _ (omega (arith, run-whole digit (drop used area) (all-behind digit used area h), length-drop used area))
+stand area used n h k = le-leb (used + n) _ (omega (arith, run-all digit (drop used area) (all-behind digit used area h), length-drop used area))
 
 digit-lower : (b : ℕ) → digit b ≡ true → lower b ≡ b
 unfolding digit lower

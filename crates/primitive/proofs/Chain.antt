@@ -45,6 +45,9 @@ module _ {A : Type 0} (p q : Answer A) where
   pub first-none : (a : Answer A) → p ≡ none → a ≡ q → a ≡ orElse p q
   first-none a e k = rw e k
 
+  pub first-stop : p ≡ stop → stop ≡ orElse p q
+  first-stop e = rw e
+
 -- A chain that begins with a choice.
 module _ {A B : Type 0} (f : A → ℕ → Answer B) (p d : Answer A) where
   pub first-then : (v : A) (n : ℕ) (q : Answer B) → p ≡ matched v n → q ≡ f v n → q ≡ andThen (orElse p d) f

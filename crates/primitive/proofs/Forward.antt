@@ -50,6 +50,10 @@ module _ {A : Type 0} (text : List ℕ) (at : ℕ) where
 
 -- ---- combinators
 
+pub if-forward : {A : Type 0} (t : Bool) (p q : Reader A) → Forward p → Forward q → Forward (if t p q)
+if-forward true p q h k = h
+if-forward false p q h k = k
+
 module _ {A B : Type 0} where
   pub then-forward : (p : Reader A) (f : A → Reader B) → Forward p → ((v : A) → Forward (f v)) → Forward (p >>= f)
   then-forward p f h k text at = go (p text at) refl

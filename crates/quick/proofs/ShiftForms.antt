@@ -21,8 +21,7 @@ use Rattle.primitive.proofs.Lowered.{length-lowered, rest-cons, rest-none, clas
 use Rattle.dates.specs.declared.date.Date.{Date}
 use Rattle.dates.specs.Date.{months}
 use Rattle.times.specs.Time.{parse as parse-time}
-use Rattle.relative.specs.Relative.{direction, rounded}
-use Rattle.relative.specs.declared.Relative.the-variants.{Seconds}
+use Rattle.relative.specs.Relative.{direction}
 use Rattle.items.specs.Combined.{iso-alone, combined-time, parse-time-after-date}
 use Rattle.items.specs.Items.{parse-item}
 use Rattle.items.specs.declared.Item.the-variants as item
@@ -35,6 +34,7 @@ use Rattle.forms.proofs.Dates.{short-no-date}
 use Rattle.forms.proofs.Items.{number-no-time}
 use Rattle.forms.proofs.Combined.{separator-read, hour-alone, no-time-behind}
 use Rattle.forms.proofs.Relative.{plural, turned, LongUnit, ago-read, no-direction, year-word, month-word, week-word, day-word, hour-word, second-unit}
+use Rattle.forms.proofs.TwoItems.{rounded-signed, sign-lower}
 use Rattle.forms.proofs.RelativeItems.{OtherWord, tested, other-word, number-and-unit, signed-and-unit, seconds, signed-seconds}
 use Rattle.quick.specs.Rows.{Digits}
 use Rattle.quick.specs.Shifts.{relativeOf, ShiftAt, BehindSign, UnitAt, wordOf, wayOf, Plural, Counted, CountAt}
@@ -96,11 +96,6 @@ turned-signed false negative n = refl
 turned-signed true false n = refl
 turned-signed true true zero = refl
 turned-signed true true (suc n) = refl
-
-rounded-signed : (negative : Bool) (n : ℕ) → rounded negative (record { sec = n; nsec = 0 }) ≡ Seconds (signed negative n) 0
-unfolding rounded signed
-rounded-signed true n = refl
-rounded-signed false n = refl
 
 negated : (n : ℕ) → mag (negℤ (pos n)) ≤ n
 negated zero = omega arith
@@ -230,11 +225,6 @@ number-there s at start v n r h (inl (e, f)) = read-row _ _ _ _ r (rw length-low
 number-there s at start v n r h (inr (e, f)) = read-row _ _ _ _ r (rw length-lowered (omega arith))
 
 -- a number behind a sign, and one without a sign
-sign-lower : (negative : Bool) → lower (signOf negative) ≡ signOf negative
-unfolding lower
-sign-lower true = refl
-sign-lower false = refl
-
 module _ (s : List ℕ) (at v n : ℕ) (h : at < length s) where
   there : at < length (lowered s)
   there = rw (length-lowered s) h

@@ -3,7 +3,7 @@ use native.Mathlib.Omega.{arith}
 use borrow.Author.Tests.{le-leb, leb-true, lt-ltb}
 use native.Mathlib.Nat.{zero-add}
 use Prim.Native.Nat.{ℕ, _+_, _^_, _<_, _≤_}
-use mathlib.Core.Path.{_≡_, refl, _∙_}
+use mathlib.Core.Path.{_≡_, _∙_}
 use mathlib.Core.Bool.{Bool, true, false}
 use mathlib.Core.List.{List, [], _∷_, _++_}
 use lib.Dec.{ltb, leb}
@@ -14,7 +14,7 @@ use Rattle.extended.specs.declared.ExtendedDateTime.{ExtendedDateTime}
 use Rattle.extended.proofs.Records.{facts}
 use Rattle.primitive.specs.Text.{lowered, bytes, digit, run, past}
 use Rattle.primitive.specs.Ordinal.{signed}
-use Rattle.primitive.proofs.Rows.{all, halves}
+use Rattle.primitive.proofs.Rows.{all, halves, run-all}
 use Rattle.relative.specs.declared.Relative.the-variants.{Seconds}
 use Rattle.items.specs.Items.{ended, parse-items}
 use Rattle.items.specs.declared.Item.the-variants as item
@@ -35,15 +35,10 @@ shift minus n = shiftText minus (digits n)
 
 -- ---- its bytes
 
-whole-run : (p : ℕ → Bool) (l : List ℕ) → all p l ≡ true → run p l ≡ length l
-unfolding run
-whole-run p [] h = refl
-whole-run p (b ∷ bs) h = let t = halves (p b) (all p bs) h in rw (t .0, whole-run p bs (t .1))
-
 -- the bytes below 128 end where the text does
 ascii-all : (l : List ℕ) → all (λ b. ltb b 128) l ≡ true → asciiEnd l ≡ length l
 unfolding asciiEnd past ascii
-ascii-all l h = zero-add (run (λ b. ltb b 128) l) ∙ whole-run (λ b. ltb b 128) l h
+ascii-all l h = zero-add (run (λ b. ltb b 128) l) ∙ run-all (λ b. ltb b 128) l h
 
 digit-ascii : (b : ℕ) → digit b ≡ true → ltb b 128 ≡ true
 unfolding digit

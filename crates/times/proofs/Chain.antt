@@ -11,7 +11,7 @@ use Rattle.primitive.specs.declared.ReadU8.{ReadU8}
 use Rattle.primitive.specs.declared.ReadU8.the-variants as u8
 use Rattle.primitive.specs.declared.ReadU32.{ReadU32}
 use Rattle.primitive.specs.declared.ReadU32.the-variants as u32
-use Rattle.primitive.proofs.Chain.{then-matched, then-none, then-stop, first-matched, first-none, place-match, place-none}
+use Rattle.primitive.proofs.Chain.{then-matched, then-none, then-stop, first-matched, first-none, first-stop, place-match, place-none}
 use Rattle.primitive.proofs.Limits.{limits}
 use Rattle.relative.specs.Relative.{relativeAnswer}
 use Rattle.relative.specs.declared.Relative.{Relative}
@@ -36,10 +36,6 @@ use Rattle.times.specs.declared.time.ReadTimeOffset.{ReadTimeOffset}
 use Rattle.times.specs.declared.time.ReadTimeOffset.the-variants as correction
 use Rattle.times.specs.declared.time.FoundMinute.{FoundMinute}
 use Rattle.times.specs.declared.time.FoundSecond.{FoundSecond}
-
--- For any answer: a stop is no choice's.
-first-stop : {A : Type 0} (p q : Answer A) → p ≡ stop → stop ≡ orElse p q
-first-stop p q e = rw e
 
 pub nothing-left : {A B : Type 0} (a : Answer A) → _≡_ {A = Answer B} none (without a none)
 nothing-left (matched v n) = refl
