@@ -1,5 +1,7 @@
 // Signed numbers at their edges: an i64 as an unsigned number, and sums and products that say when
 // they leave the range of an i64. Every argument is taken, the very ends of each type too.
+#![tactic(auto)]
+
 ghost use Rattle.std.specs.Prelude.{◌≡◌, pos};
 ghost use Rattle.integers.specs.Integers.{raised, sum, product, natural_of, in_i32};
 

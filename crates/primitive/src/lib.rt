@@ -4,6 +4,8 @@
 //
 // The definitions and laws of `spaces`, `numbers` and `words`, which stand on this crate, are here too.
 
+#![tactic(auto)]
+
 ghost use Rattle.std.specs.Prelude.{min, ◌≡◌, eqb};
 ghost use Rattle.primitive.specs.Text.{lower, lowered, blank, digit, letter, past, byte, tag};
 ghost use Rattle.primitive.specs.Primitive.{multispace1, sign, dec_uint_str, alpha1, place_answer, slice_answer, sign_answer};
@@ -62,6 +64,7 @@ pub enum ReadSecAndNsec {
 }
 
 // A byte in lower case.
+#[tactic(auto, unfolding(crate::specs::Text::lower))]
 pub fn to_lower(b: u8) -> u8
     ensures { result ≡ lower b }
 {
@@ -73,12 +76,14 @@ pub fn to_lower(b: u8) -> u8
     b
 }
 
+#[tactic(auto, unfolding(crate::specs::Text::blank))]
 fn is_blank(b: u8) -> bool
     ensures { result ≡ blank b }
 {
     b == 32 || 9 <= b && b <= 13
 }
 
+#[tactic(auto, unfolding(crate::specs::Text::digit))]
 pub fn is_digit(b: u8) -> bool
     ensures { result ≡ digit b }
 {
@@ -86,6 +91,7 @@ pub fn is_digit(b: u8) -> bool
 }
 
 // Whether a byte is a letter, small or capital.
+#[tactic(auto, using(crate::proofs::Lowered::letters_tests))]
 fn is_alpha(b: u8) -> bool
     ensures { result ≡ letter (lower b) }
 {

@@ -12,14 +12,7 @@ use mir.Facts.{to_z-of_z}
 use Rattle.integers.specs.Integers.{raised, sum}
 use Rattle.integers.specs.declared.Checked.TheVariants.{Fits, Overflow}
 use Rattle.integers.proofs.Range.{raised_below, lt_yes, lt_no, le_yes, le_no, diff_fits, diff_raised, diff_beyond, diff_under, sum_diff, less_diff, fits_in, fits_not}
-use Rattle.integers.proofs.checked_add.Statement.{statement}
-use Rattle.integers.proofs.checked_add.Tie as tie
-
-a_is : (c : tie.Start) → to_z w64 (of_z w64 c.args.a) ≡ c.args.a
-a_is c = to_z-of_z c.ranges.a
-
-b_is : (c : tie.Start) → to_z w64 (of_z w64 c.args.b) ≡ c.args.b
-b_is c = to_z-of_z c.ranges.b
+use Rattle.integers.proofs.checked_add.Goals as goal
 
 -- the sum by its raised numbers: within the range, above it, below it
 abbrev Inside : ℤ → ℤ → Type 0
@@ -79,82 +72,67 @@ module _ (b : ℤ) (g : SFits w64 b) (p : le_z (pos 0) b ≡ false) where
   unfolding raised
   floor_is = rw (less_diff (negsuc 9223372036854775807) b least g) (diff_raised (raised (negsuc 9223372036854775807)) (raised b) (omega (arith, low)))
 
--- the tests, as the code makes them
-b_up : (c : tie.Then1) → le_z (pos 0) c.before.args.b ≡ true
-b_up c = rw (b_is c.before) at c.if1.true
-
-b_down : (c : tie.Else1) → le_z (pos 0) c.before.args.b ≡ false
-b_down c = rw (b_is c.before) at c.if1.false
-
-inside_up : (c : tie.Else2) → Inside c.before.before.args.a c.before.before.args.b
-inside_up c =
-    let s = c.before.before in
+pub returns-then-a-b : goal.returns-then-a-b
+returns-then-a-b c =
+    let a_is : to_z w64 (of_z w64 c.args.a) ≡ c.args.a = to_z-of_z c.ranges.a in
+    let b_is : to_z w64 (of_z w64 c.args.b) ≡ c.args.b = to_z-of_z c.ranges.b in
+    let b_up : le_z (pos 0) c.args.b ≡ true = rw b_is at c.if-b-ge0.true in
+    let s = c in
     let a = s.args.a in
     let b = s.args.b in
-    let p = b_up c.before in
+    let r = room b s.ranges.b b_up in
+    let t = rw (a_is, b_is, to_z-of_z r) at c.if-a-b.true in
+    sum_over a b s.ranges.a s.ranges.b (omega (arith, lt_yes (pos 9223372036854775807 -ℤ b) a r s.ranges.a t, room_is b s.ranges.b b_up))
+
+pub returns-then-b-ge0 : goal.returns-then-b-ge0
+returns-then-b-ge0 c =
+    let a_is : to_z w64 (of_z w64 c.args.a) ≡ c.args.a = to_z-of_z c.ranges.a in
+    let b_is : to_z w64 (of_z w64 c.args.b) ≡ c.args.b = to_z-of_z c.ranges.b in
+    let b_up : le_z (pos 0) c.args.b ≡ true = rw b_is at c.if-b-ge0.true in
+    let inside_up : Inside c.args.a c.args.b =
+    let s = c in
+    let a = s.args.a in
+    let b = s.args.b in
+    let p = b_up in
     let r = room b s.ranges.b p in
-    let t = rw (a_is s, b_is s, to_z-of_z r) at c.if2.false in
-    omega (arith, lt_no (pos 9223372036854775807 -ℤ b) a r s.ranges.a t, room_is b s.ranges.b p, high b s.ranges.b p)
+    let t = rw (a_is, b_is, to_z-of_z r) at c.if-a-b.false in
+    omega (arith, lt_no (pos 9223372036854775807 -ℤ b) a r s.ranges.a t, room_is b s.ranges.b p, high b s.ranges.b p) in
+    let s = c in
+    let f = fits s.args.a s.args.b s.ranges.a s.ranges.b inside_up in
+    rw (a_is, b_is, to_z-of_z f) (sum_fits s.args.a s.args.b s.ranges.a s.ranges.b inside_up)
 
-inside_down : (c : tie.Else3) → Inside c.before.before.args.a c.before.before.args.b
-inside_down c =
-    let s = c.before.before in
+pub returns-then-a-b-2 : goal.returns-then-a-b-2
+returns-then-a-b-2 c =
+    let a_is : to_z w64 (of_z w64 c.args.a) ≡ c.args.a = to_z-of_z c.ranges.a in
+    let b_is : to_z w64 (of_z w64 c.args.b) ≡ c.args.b = to_z-of_z c.ranges.b in
+    let b_down : le_z (pos 0) c.args.b ≡ false = rw b_is at c.if-b-ge0.false in
+    let s = c in
     let a = s.args.a in
     let b = s.args.b in
-    let p = b_down c.before in
+    let p = b_down in
     let r = floor b s.ranges.b p in
-    let t = rw (a_is s, b_is s, to_z-of_z r) at c.if3.false in
+    let t = rw (a_is, b_is, to_z-of_z r) at c.if-a-b-2.true in
+    sum_under a b s.ranges.a s.ranges.b (omega (arith, lt_yes a (negsuc 9223372036854775807 -ℤ b) s.ranges.a r t, floor_is b s.ranges.b p))
+
+pub returns : goal.returns
+returns c =
+    let a_is : to_z w64 (of_z w64 c.args.a) ≡ c.args.a = to_z-of_z c.ranges.a in
+    let b_is : to_z w64 (of_z w64 c.args.b) ≡ c.args.b = to_z-of_z c.ranges.b in
+    let b_down : le_z (pos 0) c.args.b ≡ false = rw b_is at c.if-b-ge0.false in
+    let inside_down : Inside c.args.a c.args.b =
+    let s = c in
+    let a = s.args.a in
+    let b = s.args.b in
+    let p = b_down in
+    let r = floor b s.ranges.b p in
+    let t = rw (a_is, b_is, to_z-of_z r) at c.if-a-b-2.false in
     omega (
       arith,
       lt_no a (negsuc 9223372036854775807 -ℤ b) s.ranges.a r t,
       floor_is b s.ranges.b p,
       low b s.ranges.b p,
       raised_below a s.ranges.a,
-    )
-
-sub-if2 : tie.Need-overflow-sub-if2
-sub-if2 c = rw (b_is c.before) (room c.before.args.b c.before.ranges.b (b_up c))
-
-returns : tie.Need-returns
-returns c =
-    let s = c.before.before in
-    let a = s.args.a in
-    let b = s.args.b in
-    let r = room b s.ranges.b (b_up c.before) in
-    let t = rw (a_is s, b_is s, to_z-of_z r) at c.if2.true in
-    sum_over a b s.ranges.a s.ranges.b (omega (arith, lt_yes (pos 9223372036854775807 -ℤ b) a r s.ranges.a t, room_is b s.ranges.b (b_up c.before)))
-
-add-t4 : tie.Need-overflow-add-t4
-add-t4 c = rw (a_is c.before.before, b_is c.before.before) (fits _ _ c.before.before.ranges.a c.before.before.ranges.b (inside_up c))
-
-returns-2 : tie.Need-returns-2
-returns-2 c =
-    let s = c.before.before in
-    let f = fits s.args.a s.args.b s.ranges.a s.ranges.b (inside_up c) in
-    rw (a_is s, b_is s, to_z-of_z f) (sum_fits s.args.a s.args.b s.ranges.a s.ranges.b (inside_up c))
-
-sub-if3 : tie.Need-overflow-sub-if3
-sub-if3 c = rw (b_is c.before) (floor c.before.args.b c.before.ranges.b (b_down c))
-
-returns-3 : tie.Need-returns-3
-returns-3 c =
-    let s = c.before.before in
-    let a = s.args.a in
-    let b = s.args.b in
-    let p = b_down c.before in
-    let r = floor b s.ranges.b p in
-    let t = rw (a_is s, b_is s, to_z-of_z r) at c.if3.true in
-    sum_under a b s.ranges.a s.ranges.b (omega (arith, lt_yes a (negsuc 9223372036854775807 -ℤ b) s.ranges.a r t, floor_is b s.ranges.b p))
-
-add-t6 : tie.Need-overflow-add-t6
-add-t6 c = rw (a_is c.before.before, b_is c.before.before) (fits _ _ c.before.before.ranges.a c.before.before.ranges.b (inside_down c))
-
-returns-4 : tie.Need-returns-4
-returns-4 c =
-    let s = c.before.before in
-    let f = fits s.args.a s.args.b s.ranges.a s.ranges.b (inside_down c) in
-    rw (a_is s, b_is s, to_z-of_z f) (sum_fits s.args.a s.args.b s.ranges.a s.ranges.b (inside_down c))
-
-pub checked-add-spec : {M : Type 1} → statement M
-checked-add-spec =
-    tie.close (tie.spec sub-if2 returns add-t4 returns-2 sub-if3 returns-3 add-t6 returns-4)
+    ) in
+    let s = c in
+    let f = fits s.args.a s.args.b s.ranges.a s.ranges.b inside_down in
+    rw (a_is, b_is, to_z-of_z f) (sum_fits s.args.a s.args.b s.ranges.a s.ranges.b inside_down)

@@ -1,0 +1,12 @@
+-- `multispace0` ends where the run of blanks does. The loop's invariant: from `i` on the run ends where it does from `at` on. Assumes nothing.
+use mathlib.Core.Path.{◌≡◌}
+use Rattle.primitive.specs.Text.{blank, lowered, past}
+use Prim.Native.Nat.{◌-◌}
+use lib.ListN.{length}
+use Rattle.primitive.proofs.multispace0.Given as goal
+
+abbrev pub invariant-loop-i : goal.invariant-loop-i
+invariant-loop-i l = past blank (lowered l.s) l.i ≡ past blank (lowered l.s) l.at
+
+abbrev pub decreases-loop-i : goal.decreases-loop-i
+decreases-loop-i l = length l.s - l.i
