@@ -51,6 +51,13 @@ class Fun:
             old, new = place[2]
             if old:
                 self.steps[norm(old)] = new
+        # what a pattern binds and says: c.next.given.1 -> c.in-Fits.is
+        self.arms = {}
+        for arm in names["arms"]:
+            if arm:
+                for field, step, path in arm[2]:
+                    if path and not field.endswith("-own"):
+                        self.arms[(norm(step), *path)] = [arm[0], field]
         self.loops = names["loops"]
         self.changed = names["changed"]
 
@@ -61,7 +68,15 @@ class Fun:
         def one(m):
             chain = [f for f in m[2].split(".") if f and f != "before"]
             if chain:
+                for n in range(len(chain), 1, -1):
+                    hit = self.arms.get((norm(chain[0]), *chain[1:n]))
+                    if hit:
+                        return ".".join([m[1], *hit, *chain[n:]])
                 chain[0] = self.step(chain[0])
+                loops = [new for (_, new), _ in self.loops]
+                for k in range(1, len(chain)):
+                    if chain[k - 1] in ("args", "ranges", "new", *loops):
+                        chain[k] = chain[k].replace("-", "_")
             return ".".join([m[1], *chain])
 
         return re.sub(rf"(?<![^\s(){{}}\[\],;])({root})((?:\.{NAME})+)", one, text)
@@ -232,7 +247,7 @@ def convert(fun, text, report):
         sig, eqs = [], []
         at_eq = False
         for l in lines:
-            if l.startswith(name + " ") and re.match(re.escape(name) + r"( \S+)* =", l):
+            if l.startswith(name + " ") and not l.startswith(name + " :") and re.match(re.escape(name) + r"( \S+)* =", l):
                 at_eq = True
             (eqs if at_eq else sig).append(l)
         sigt = " ".join(s.strip() for s in sig)

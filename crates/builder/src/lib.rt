@@ -18,14 +18,14 @@ use times::offset::Normalized;
 use times::time::TimeOffset;
 
 // A record, or the number and the place of a refusal.
-#[derive(Drop)]
+#[derive(Clone, Copy)]
 pub enum Built {
     Record(ExtendedDateTime),
     Refused(u32, usize),
 }
 
 // Days to be added, or the number of a refusal.
-#[derive(Drop)]
+#[derive(Clone, Copy)]
 enum Days {
     Add(i64),
     Refused(u32),

@@ -1,4 +1,6 @@
 // The counted calendar: years, months and days, for any year.
+#![tactic(auto)]
+
 ghost use Rattle.std.specs.Prelude.{◌≡◌, ◌+◌, ◌-◌, ◌<◌, ◌≤◌};
 ghost use Rattle.calendar.specs.Calendar.{leap, month_days, days_before_year, year_days, days_of_months, Valid, ymd, civil};
 
@@ -33,7 +35,7 @@ fn days_before_year(year: u64) -> u64
 }
 
 // A date whose year may be any.
-#[derive(Drop)]
+#[derive(Clone, Copy)]
 pub struct Civil {
     pub year: u64,
     pub month: u8,
@@ -65,7 +67,7 @@ fn year_in_block(day: u32) -> u32
     year + (days_before_year(year as u64 + 1) <= day as u64) as u32
 }
 
-#[derive(Drop)]
+#[derive(Clone, Copy)]
 struct MonthDay {
     month: u8,
     day: u8,

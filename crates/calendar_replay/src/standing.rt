@@ -1,7 +1,7 @@
 // Where the program stands between two bytes of a line.
 use crate::numbers;
 
-#[derive(Drop)]
+#[derive(Clone, Copy)]
 pub struct Standing {
     // The first eight bytes of the line's name, as one number of base 256. A line on which something
     // can't be read loses its name.

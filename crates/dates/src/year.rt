@@ -9,7 +9,7 @@ ghost use Rattle.dates.specs.Year.{widened_by, year_from_str, year_str, digits_a
 use primitive::{ReadPlace, ReadU32, ReadU64};
 
 // Where digits stand: from one place up to another.
-#[derive(Drop)]
+#[derive(Clone, Copy)]
 pub enum ReadDigits {
     Match(usize, usize),
     NoMatch,

@@ -1,6 +1,8 @@
 // Seconds with a fraction, as in items/epoch.rs: whole seconds, then a point or comma with one digit or more behind it. The first
 // nine digits count, as nanoseconds. A point without a digit is left unread.
 
+#![tactic(auto)]
+
 ghost use Rattle.std.specs.Prelude.{◌≡◌};
 ghost use Rattle.std.proofs.Math.Seq.{slice};
 ghost use Rattle.primitive.specs.Text.{lowered, digit, past};

@@ -3,6 +3,8 @@
 // A record is accepted where `new` refuses none of its numbers. Every function takes any record and
 // any numbers: a record that `new` refuses gets `new`'s number, and every refusal is a number of the
 // table of answers (9 to 18 here), given in the order of the tests.
+#![tactic(auto)]
+
 ghost use Rattle.std.specs.Prelude.{◌≡◌};
 ghost use Rattle.extended.specs.Outcome.{number};
 ghost use Rattle.extended.specs.Extended.{made_of, make, blank, date, time, date_of, time_of, test_date, test_time, test_offset, test, test_year, accept, with_date, with_time, with_offset};
@@ -13,7 +15,7 @@ pub use calendar::{days_in_month, is_leap_year};
 pub const GNU_MAX_YEAR: u32 = 2147485547;
 
 #[repr(C)]
-#[derive(Drop)]
+#[derive(Clone, Copy)]
 pub struct ExtendedDateTime {
     pub year: u32,
     pub month: u8,
@@ -26,14 +28,14 @@ pub struct ExtendedDateTime {
     pub offset_seconds: i32,
 }
 
-#[derive(Drop)]
+#[derive(Clone, Copy)]
 pub struct DateParts {
     pub year: u32,
     pub month: u8,
     pub day: u8,
 }
 
-#[derive(Drop)]
+#[derive(Clone, Copy)]
 pub struct TimeParts {
     pub hour: u8,
     pub minute: u8,
@@ -42,21 +44,21 @@ pub struct TimeParts {
 }
 
 // A record, or the number of its refusal.
-#[derive(Drop)]
+#[derive(Clone, Copy)]
 pub enum Made {
     Record(ExtendedDateTime),
     Refused(u32),
 }
 
 // A moment in seconds, or the number of the record's refusal.
-#[derive(Drop)]
+#[derive(Clone, Copy)]
 pub enum UnixSeconds {
     At(i64),
     Refused(u32),
 }
 
 // A day of a year or of a week, or the number of the record's refusal.
-#[derive(Drop)]
+#[derive(Clone, Copy)]
 pub enum DayCount {
     Days(u32),
     Refused(u32),

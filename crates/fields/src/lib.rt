@@ -6,7 +6,7 @@ ghost use Rattle.fields.specs.Fields.{little, signed, unsigned, small, fields_fr
 
 use items::{Day, Item};
 
-#[derive(Drop)]
+#[derive(Clone, Copy)]
 pub struct Fields {
     pub kind: u8,
     // The weekday, or the unit of a relative item.
@@ -28,21 +28,21 @@ pub struct Fields {
 }
 
 // An item, or that the fields are those of none.
-#[derive(Drop)]
+#[derive(Clone, Copy)]
 pub enum Found {
     Item(Item),
     Bad,
 }
 
 // A number that an i32 holds.
-#[derive(Drop)]
+#[derive(Clone, Copy)]
 pub enum Small {
     Fits(i32),
     Overflow,
 }
 
 // A day of the week, or that there is none.
-#[derive(Drop)]
+#[derive(Clone, Copy)]
 pub enum FoundDay {
     Day(Day),
     Bad,

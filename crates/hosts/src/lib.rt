@@ -1,5 +1,7 @@
 // What hosts are answered: a record, a moment or a number under number 0, or a refusal with its number
 // of the table of answers, and then the blank record, or 0 where a number was wanted.
+#![tactic(auto)]
+
 ghost use Rattle.std.specs.Prelude.{◌≡◌};
 ghost use Rattle.extended.specs.Extended.{made_of, seconds_of, count_of};
 ghost use Rattle.hosts.specs.Hosts.{record_answer, moment_answer, number_answer};
@@ -10,7 +12,7 @@ pub type Record = ExtendedDateTime;
 
 // A refusal has its place here too: document 01 says which numbers have one.
 #[repr(C)]
-#[derive(Drop)]
+#[derive(Clone, Copy)]
 pub struct Answer {
     pub number: u32,
     pub place: u32,
@@ -18,14 +20,14 @@ pub struct Answer {
 }
 
 #[repr(C)]
-#[derive(Drop)]
+#[derive(Clone, Copy)]
 pub struct Moment {
     pub number: u32,
     pub seconds: i64,
 }
 
 #[repr(C)]
-#[derive(Drop)]
+#[derive(Clone, Copy)]
 pub struct Number {
     pub number: u32,
     pub value: u32,

@@ -6,7 +6,7 @@ ghost use Rattle.std.specs.Prelude.{◌≡◌, pos};
 ghost use Rattle.integers.specs.Integers.{raised, sum, product, natural_of, in_i32};
 
 // What a checked operation answers: its value, or that no i64 holds it.
-#[derive(Drop)]
+#[derive(Clone, Copy)]
 pub enum Checked {
     Fits(i64),
     Overflow,
@@ -65,7 +65,7 @@ pub fn checked_mul(a: i64, factor: u32) -> Checked
 }
 
 // What an i64 is as an unsigned number.
-#[derive(Drop)]
+#[derive(Clone, Copy)]
 pub enum Natural {
     At(u64),
     Below,

@@ -10,14 +10,14 @@ use dates::date::Date;
 use primitive::ReadPlace;
 use times::time::{ReadTime, Time};
 
-#[derive(Drop)]
+#[derive(Clone, Copy)]
 pub struct DateTime {
     pub date: Date,
     pub time: Time,
 }
 
 // A date with its time, and where they end.
-#[derive(Drop)]
+#[derive(Clone, Copy)]
 pub enum ReadDateTime {
     Match(DateTime, usize),
     NoMatch,

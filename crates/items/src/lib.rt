@@ -11,7 +11,7 @@ use relative::Relative;
 use times::offset::Offset;
 use times::time::Time;
 
-#[derive(Drop)]
+#[derive(Clone, Copy)]
 pub enum Day {
     Monday,
     Tuesday,
@@ -22,20 +22,20 @@ pub enum Day {
     Sunday,
 }
 
-#[derive(Drop)]
+#[derive(Clone, Copy)]
 pub struct Weekday {
     pub offset: i32,
     pub day: Day,
 }
 
 // Where the digits of a pure number stand in the digits that come with the items.
-#[derive(Drop)]
+#[derive(Clone, Copy)]
 pub struct Pure {
     pub start: u16,
     pub length: u16,
 }
 
-#[derive(Drop)]
+#[derive(Clone, Copy)]
 pub enum Item {
     DateTime(DateTime),
     Date(Date),
@@ -49,7 +49,7 @@ pub enum Item {
 }
 
 // An item, and where it ends.
-#[derive(Drop)]
+#[derive(Clone, Copy)]
 pub enum ReadItem {
     Match(Item, usize),
     NoMatch,
@@ -57,7 +57,7 @@ pub enum ReadItem {
 }
 
 // One item of many.
-#[derive(Drop)]
+#[derive(Clone, Copy)]
 pub struct Slot {
     pub item: Item,
 }

@@ -24,7 +24,7 @@ pub fn print_items(text: &[u8]) {
 }
 
 // How the reading of a text ends: number 0 at its end, or the number and the place of a refusal.
-#[derive(Drop)]
+#[derive(Clone, Copy)]
 struct End {
     number: u32,
     place: usize,

@@ -1,7 +1,7 @@
 // Where the program stands between two bytes of a line.
 use crate::numbers;
 
-#[derive(Drop)]
+#[derive(Clone, Copy)]
 pub enum Mode {
     Text,
     // Behind `{`, in a number.
@@ -10,7 +10,7 @@ pub enum Mode {
     Reason,
 }
 
-#[derive(Drop)]
+#[derive(Clone, Copy)]
 pub struct Standing {
     pub mode: Mode,
     // The bytes of the text so far; more than there is room for once one did not fit.

@@ -12,7 +12,7 @@ use builder::Built;
 use extended::ExtendedDateTime;
 
 // Where the program stands between two turns.
-#[derive(Drop)]
+#[derive(Clone, Copy)]
 struct Standing {
     base: ExtendedDateTime,
     // Line 1 has been read.

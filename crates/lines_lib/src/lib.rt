@@ -9,7 +9,7 @@ use extended::ExtendedDateTime;
 
 // How far the lines of a chunk are answered: the bytes of the chunk that are taken, the bytes of answers, and whether the answers stopped
 // for want of room.
-#[derive(Drop)]
+#[derive(Clone, Copy)]
 pub struct Progress {
     pub taken: usize,
     pub used: usize,

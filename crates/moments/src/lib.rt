@@ -1,5 +1,7 @@
 // Records and moments, after the Rust's extended.rs: the seconds from 1970 to a record, the record of a moment, a record some seconds later,
 // and the days of the week and of the year.
+#![tactic(auto)]
+
 ghost use Rattle.std.specs.Prelude.{◌≡◌, ◌-◌, ◌<◌, ◌≤◌, pos, ◌-ℤ◌};
 ghost use Rattle.calendar.specs.Calendar.{days_of_months, day_number};
 ghost use Rattle.extended.specs.Outcome.{accepted};

@@ -1,5 +1,7 @@
 // Numbers in digits, as in items/primitive.rs. One that is too large for its type is no match.
 
+#![tactic(auto)]
+
 ghost use Rattle.std.specs.Prelude.{◌≡◌, ◌-◌, ◌<◌, ◌^◌, ltb};
 ghost use Rattle.std.proofs.Math.Seq.{slice};
 ghost use Rattle.primitive.specs.Answer.{if, matched, none};

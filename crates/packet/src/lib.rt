@@ -19,7 +19,7 @@ use relative::Relative;
 use rules::RelativePlace;
 
 // The packet, and the index of the item that is next.
-#[derive(Drop)]
+#[derive(Clone, Copy)]
 pub struct Packet<'a> {
     pub bytes: &'a [u8],
     pub index: u32,

@@ -8,7 +8,7 @@
 use extended::ExtendedDateTime;
 
 // Where the program stands in a line.
-#[derive(Drop)]
+#[derive(Clone, Copy)]
 struct Standing {
     // The bytes of the packet so far.
     length: usize,

@@ -11,53 +11,53 @@ ghost use Rattle.primitive.specs.Text.{lower, lowered, blank, digit, letter, pas
 ghost use Rattle.primitive.specs.Primitive.{multispace1, sign, dec_uint_str, alpha1, place_answer, slice_answer, sign_answer};
 
 // Where a match ends.
-#[derive(Drop)]
+#[derive(Clone, Copy)]
 pub enum ReadPlace {
     Match(usize),
     NoMatch,
 }
 
 // Whether a sign is a minus, and where it ends.
-#[derive(Drop)]
+#[derive(Clone, Copy)]
 pub enum ReadSign {
     Match(bool, usize),
     NoMatch,
 }
 
 // A number, and where it ends.
-#[derive(Drop)]
+#[derive(Clone, Copy)]
 pub enum ReadU8 {
     Match(u8, usize),
     NoMatch,
 }
 
-#[derive(Drop)]
+#[derive(Clone, Copy)]
 pub enum ReadU32 {
     Match(u32, usize),
     NoMatch,
 }
 
-#[derive(Drop)]
+#[derive(Clone, Copy)]
 pub enum ReadU64 {
     Match(u64, usize),
     NoMatch,
 }
 
 // A signed number, and where it ends.
-#[derive(Drop)]
+#[derive(Clone, Copy)]
 pub enum ReadI32 {
     Match(i32, usize),
     NoMatch,
 }
 
-#[derive(Drop)]
+#[derive(Clone, Copy)]
 pub struct SecAndNsec {
     pub sec: u64,
     pub nsec: u32,
 }
 
 // Seconds with a fraction, and where they end.
-#[derive(Drop)]
+#[derive(Clone, Copy)]
 pub enum ReadSecAndNsec {
     Match(SecAndNsec, usize),
     NoMatch,

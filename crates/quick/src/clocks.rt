@@ -6,14 +6,14 @@ ghost use Rattle.quick.specs.Clocks.{ClockAt, SecondAt, ZoneAt, HalfDayAt};
 use crate::rows::ReadShort;
 
 // The offset of a time: whether it is west of UTC, its hours and its minutes.
-#[derive(Drop)]
+#[derive(Clone, Copy)]
 pub enum Zone {
     Given(bool, u32, u32),
     NotGiven,
 }
 
 // Hour, minute, second, nanosecond and offset, and the place behind them and a blank.
-#[derive(Drop)]
+#[derive(Clone, Copy)]
 pub enum ReadClock {
     Match(u32, u32, u32, u32, Zone, usize),
     NoMatch,

@@ -7,7 +7,7 @@ use crate::rows::ReadShort;
 use primitive::{ReadPlace, ReadU8};
 
 // Year, month and day, and where they end. Whether the month has the day is not asked.
-#[derive(Drop)]
+#[derive(Clone, Copy)]
 pub enum ReadDay {
     Match(u32, u32, u32, usize),
     NoMatch,

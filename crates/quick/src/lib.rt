@@ -30,7 +30,7 @@ use times::offset::Offset;
 const LONGEST: usize = 128;
 
 // A date and a time of day, midnight where none is given, and the place behind them and the blanks that follow.
-#[derive(Drop)]
+#[derive(Clone, Copy)]
 struct Shape {
     year: u32,
     month: u32,
@@ -43,7 +43,7 @@ struct Shape {
     next: usize,
 }
 
-#[derive(Drop)]
+#[derive(Clone, Copy)]
 enum ReadShape {
     Match(Shape),
     NoMatch,

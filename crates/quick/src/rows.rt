@@ -5,7 +5,7 @@ ghost use Rattle.primitive.specs.Text.{lowered};
 ghost use Rattle.quick.specs.Rows.{DigitOf, Digits, ShortAt};
 
 // A number of one digit or two, and where it ends.
-#[derive(Drop)]
+#[derive(Clone, Copy)]
 pub enum ReadShort {
     Match(u32, usize),
     NoMatch,

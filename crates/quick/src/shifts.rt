@@ -7,7 +7,7 @@ ghost use Rattle.quick.specs.Shifts.{ShiftAt, BehindSign, CountAt, UnitAt, Plura
 
 use primitive::{ReadPlace, ReadU32};
 
-#[derive(Drop)]
+#[derive(Clone, Copy)]
 pub enum TimeUnit {
     Year,
     Month,
@@ -18,14 +18,14 @@ pub enum TimeUnit {
 }
 
 // How many units, back where the number is below 0.
-#[derive(Drop)]
+#[derive(Clone, Copy)]
 pub enum ReadShift {
     Match(TimeUnit, i32),
     NoMatch,
 }
 
 // A unit, and where its name ends.
-#[derive(Drop)]
+#[derive(Clone, Copy)]
 pub enum ReadUnit {
     Match(TimeUnit, usize),
     NoMatch,

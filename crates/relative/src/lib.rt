@@ -11,7 +11,7 @@ ghost use Rattle.relative.specs.Relative.{seconds, signed_seconds, second_word, 
 
 use primitive::{ReadPlace, ReadSecAndNsec, ReadSign};
 
-#[derive(Drop)]
+#[derive(Clone, Copy)]
 pub enum Relative {
     Years(i32),
     Months(i32),
@@ -22,7 +22,7 @@ pub enum Relative {
 }
 
 // A relative item, and where it ends.
-#[derive(Drop)]
+#[derive(Clone, Copy)]
 pub enum ReadRelative {
     Match(Relative, usize),
     NoMatch,
@@ -98,7 +98,7 @@ fn rounded(negative: bool, sec: u64, nsec: u32) -> Relative
 }
 
 // Which way a relative item goes, and where its last word ends.
-#[derive(Drop)]
+#[derive(Clone, Copy)]
 pub struct Towards {
     pub ago: bool,
     pub next: usize,

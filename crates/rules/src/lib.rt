@@ -11,33 +11,33 @@ use relative::Relative;
 use times::offset::Offset;
 use times::time::{Time, TimeOffset};
 
-#[derive(Drop)]
+#[derive(Clone, Copy)]
 pub enum GivenDate {
     Given(Date),
     Absent,
 }
 
-#[derive(Drop)]
+#[derive(Clone, Copy)]
 pub enum GivenTime {
     Given(Time),
     Absent,
 }
 
-#[derive(Drop)]
+#[derive(Clone, Copy)]
 pub enum GivenWeekday {
     Given(Weekday),
     Absent,
 }
 
 // A zone item: an offset, or the military letter `j` for local time, which has no offset of its own.
-#[derive(Drop)]
+#[derive(Clone, Copy)]
 pub enum GivenZone {
     Offset(Offset),
     Local,
     Absent,
 }
 
-#[derive(Drop)]
+#[derive(Clone, Copy)]
 pub struct DateTimeBuilder {
     pub date: GivenDate,
     pub time: GivenTime,
@@ -46,27 +46,27 @@ pub struct DateTimeBuilder {
 }
 
 // The builder with one item more, or the number of the rule that the item breaks.
-#[derive(Drop)]
+#[derive(Clone, Copy)]
 pub enum Set {
     Done(DateTimeBuilder),
     Refused(u32),
 }
 
 // One relative item of many.
-#[derive(Drop)]
+#[derive(Clone, Copy)]
 pub struct RelativePlace {
     pub relative: Relative,
 }
 
 // What the items so far give, or the number and the place of the first rule that one of them breaks.
-#[derive(Drop)]
+#[derive(Clone, Copy)]
 pub enum Standing {
     Good(DateTimeBuilder),
     Broken(u32, usize),
 }
 
 // A place for a relative item, and whether the item is one: 1, or 0 and the place holds nothing of the item.
-#[derive(Drop)]
+#[derive(Clone, Copy)]
 pub struct Found {
     pub place: RelativePlace,
     pub count: usize,

@@ -1,6 +1,8 @@
 // Space, and what is read behind it, as in items/primitive.rs. Space between tokens is blanks, comments and signs that no digit follows;
 // `space` answers where it ends.
 
+#![tactic(auto)]
+
 ghost use Rattle.std.specs.Prelude.{◌≡◌, true};
 ghost use Rattle.primitive.specs.Text.{lowered, byte, tag};
 ghost use Rattle.primitive.specs.Primitive.{comment, ignored_hyphen_or_plus, ignored, space, spaced, colon, plus_or_minus, place_answer, sign_answer};

@@ -4,7 +4,7 @@ ghost use Rattle.std.specs.Prelude.{◌≡◌, ◌<◌};
 ghost use Rattle.times.specs.Offset.{in_range, moved, normalized, total_seconds};
 
 // A distance from UTC; `negative` is west of it.
-#[derive(Drop)]
+#[derive(Clone, Copy)]
 pub struct Offset {
     pub negative: bool,
     pub hours: u8,
@@ -12,14 +12,14 @@ pub struct Offset {
 }
 
 // An offset whose hours are within the accepted range, and the hours by which the clock has to move to make up for it.
-#[derive(Drop)]
+#[derive(Clone, Copy)]
 pub struct Normalized {
     pub offset: Offset,
     pub hour_adjustment: i64,
 }
 
 // An offset, and where it ends.
-#[derive(Drop)]
+#[derive(Clone, Copy)]
 pub enum ReadOffset {
     Match(Offset, usize),
     NoMatch,

@@ -3,13 +3,13 @@
 use crate::offset::Offset;
 
 // The offset of a time, if it has one.
-#[derive(Drop)]
+#[derive(Clone, Copy)]
 pub enum TimeOffset {
     Given(Offset),
     NotGiven,
 }
 
-#[derive(Drop)]
+#[derive(Clone, Copy)]
 pub struct Time {
     pub hour: u8,
     pub minute: u8,
@@ -19,7 +19,7 @@ pub struct Time {
 }
 
 // A time, and where it ends.
-#[derive(Drop)]
+#[derive(Clone, Copy)]
 pub enum ReadTime {
     Match(Time, usize),
     NoMatch,
@@ -27,41 +27,41 @@ pub enum ReadTime {
 }
 
 // Seconds below 60.
-#[derive(Drop)]
+#[derive(Clone, Copy)]
 pub struct SecNsec {
     pub sec: u8,
     pub nsec: u32,
 }
 
-#[derive(Drop)]
+#[derive(Clone, Copy)]
 pub enum ReadSecNsec {
     Match(SecNsec, usize),
     NoMatch,
 }
 
 // Whether a time is after noon.
-#[derive(Drop)]
+#[derive(Clone, Copy)]
 pub enum ReadMeridiem {
     Match(bool, usize),
     NoMatch,
 }
 
 // The offset behind a time, which may be none.
-#[derive(Drop)]
+#[derive(Clone, Copy)]
 pub enum ReadTimeOffset {
     Match(TimeOffset, usize),
     Stop,
 }
 
 // Minutes, or 0 where there are none.
-#[derive(Drop)]
+#[derive(Clone, Copy)]
 pub struct FoundMinute {
     pub minute: u8,
     pub next: usize,
 }
 
 // Seconds, or 0 where there are none.
-#[derive(Drop)]
+#[derive(Clone, Copy)]
 pub struct FoundSecond {
     pub value: SecNsec,
     pub next: usize,

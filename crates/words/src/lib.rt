@@ -1,5 +1,7 @@
 // Words, as in items/primitive.rs: a word is a run of letters, and `find_word` says which word of a table it is.
 
+#![tactic(auto)]
+
 pub mod ordinal;
 
 ghost use Rattle.std.specs.Prelude.{◌≡◌, ◌≤◌, length};

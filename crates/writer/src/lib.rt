@@ -11,14 +11,14 @@ use extended::ExtendedDateTime;
 
 // The number of the answer, and how many bytes were written.
 #[repr(C)]
-#[derive(Drop)]
+#[derive(Clone, Copy)]
 pub struct Written {
     pub number: u32,
     pub length: u32,
 }
 
 // A text on its way: the first `length` of the bytes. The longest text has a year of ten digits.
-#[derive(Drop)]
+#[derive(Clone, Copy)]
 struct Text {
     bytes: [u8; 41],
     length: usize,

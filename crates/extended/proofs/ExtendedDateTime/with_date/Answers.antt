@@ -1,0 +1,22 @@
+-- `ExtendedDateTime::with_date` meets its contract: the record lent in, then the new one. Assumes nothing.
+use mathlib.Core.Path.{◌≡◌}
+use mir.Syntax.{w32}
+use mir.Val.{SFits}
+use mir.Facts.{to_z-of_z}
+use borrow.Author.Rules.{rules}
+use Rattle.extended.proofs.Outcomes.{passed, refused_by}
+use Rattle.extended.proofs.Records.{record_proper}
+use Rattle.extended.specs.Extended.{test, with_date}
+use Rattle.extended.specs.Outcome.{accepted}
+use Rattle.extended.proofs.ExtendedDateTime.with_date.Goals as goal
+
+pub returns-then-refusal-gt0 : goal.returns-then-refusal-gt0
+unfolding with_date
+returns-then-refusal-gt0 c = simp (refused_by (test c.args.self) c.refusal-refusal.ensures c.if-refusal-gt0.true)
+
+pub returns : goal.returns
+unfolding with_date
+returns c =
+    let ok : test c.args.self ≡ accepted tt = passed (record_proper c.args.self) c.refusal-refusal.ensures c.if-refusal-gt0.false in
+    let offset_fits : SFits w32 c.args.self.offset_seconds = search rules in
+    simp ok (rw (to_z-of_z offset_fits, c.time.ensures) at c.new.ensures)
