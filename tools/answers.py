@@ -345,6 +345,19 @@ def drop_argument(text, helper):
     return re.sub(rf"\({re.escape(helper)}\)", helper, text)
 
 
+def source_words(crate):
+    """The fields and parameters of the sources that have an underscore, by their dashed form."""
+    out = {}
+    for folder, _, files in os.walk(os.path.join(crate, "..")):
+        if "/out" in folder or "/src" not in folder + "/":
+            continue
+        for f in files:
+            if f.endswith(".rt"):
+                for w in re.findall(r"\b(\w*_\w*)\s*:(?!:)", read(os.path.join(folder, f))):
+                    out[w.replace("_", "-")] = w
+    return out
+
+
 def tidy(uses, text):
     out = []
     for u in uses:
@@ -368,6 +381,7 @@ def main(argv):
     crate = os.path.normpath(argv[1])
     only = argv[2:]
     cname = os.path.basename(os.path.abspath(crate))
+    words = source_words(crate)
     for key, of in names.items():
         m = re.match(r"Rattle-\w+-proofs\.(.*)\.Lts(-.*)?$", key)
         if not m:
@@ -397,6 +411,7 @@ def main(argv):
             with open(os.path.join(folder, "Invariants.antt"), "w", encoding="utf-8") as f:
                 f.write("\n".join(head + tidy(uses, t) + [f"use {mod}.Given as goal", "", t]))
         body = "\n\n".join([h for h in helpers] + answers) + "\n"
+        body = re.sub(r"(?<=[\w»)]\.)[a-z][a-z0-9-]*-[a-z0-9-]*", lambda m: words.get(m[0], m[0]), body)
         with open(os.path.join(folder, "Answers.antt"), "w", encoding="utf-8") as f:
             f.write("\n".join(head + tidy(uses, body) + [f"use {mod}.Goals as goal", "", body]))
         keep = os.path.join("/tmp/old-proofs", cname, *path.split("."))

@@ -3,6 +3,8 @@
 //
 // Seconds may have a fraction; their sum with a sign is rounded down, so that the nanoseconds are never below 0.
 
+#![tactic(auto)]
+
 ghost use Rattle.std.specs.Prelude.{◌≡◌, ◌<◌, ◌^◌, not};
 ghost use Rattle.primitive.specs.Answer.{matched, if};
 ghost use Rattle.primitive.specs.Text.{lowered};

@@ -27,34 +27,28 @@ pub returns-in_default : goal.returns-in_default
 unfolding add_seconds
 returns-in_default c =
     let ok : test c.args.dt ≡ accepted tt = passed (record_proper c.args.dt) c.refusal-refusal.ensures c.if-refusal-gt0.false in
+    let moment_fits : SFits w64 c.moment.result = search rules in
     let sum_is : c.checked_add.result ≡ sum (moment c.args.dt) c.args.delta_seconds =
-    rw (to_z-of_z (moment_fits c), to_z-of_z c.ranges.delta_seconds, c.moment.ensures) at c.checked_add.ensures
-  where
-    moment_fits : (c : tie.After-moment) → SFits w64 c.moment.result
-    moment_fits c = search rules in
+        rw (to_z-of_z moment_fits, to_z-of_z c.ranges.delta_seconds, c.moment.ensures) at c.checked_add.ensures in
     simp (ok, sym sum_is, c.in_default.is)
 
 pub returns-then-nanosecond-gt4294967295 : goal.returns-then-nanosecond-gt4294967295
 unfolding add_seconds
 returns-then-nanosecond-gt4294967295 c =
     let ok : test c.args.dt ≡ accepted tt = passed (record_proper c.args.dt) c.refusal-refusal.ensures c.if-refusal-gt0.false in
+    let moment_fits : SFits w64 c.moment.result = search rules in
     let sum_is : c.checked_add.result ≡ sum (moment c.args.dt) c.args.delta_seconds =
-    rw (to_z-of_z (moment_fits c), to_z-of_z c.ranges.delta_seconds, c.moment.ensures) at c.checked_add.ensures
-  where
-    moment_fits : (c : tie.After-moment) → SFits w64 c.moment.result
-    moment_fits c = search rules in
+        rw (to_z-of_z moment_fits, to_z-of_z c.ranges.delta_seconds, c.moment.ensures) at c.checked_add.ensures in
     let s = c.args in
-    simp (ok, sym sum_is, c.in-Fits.is, le-ltb (s.dt.nanosecond + s.delta-nanoseconds) 4294967296 (omega arith))
+    simp (ok, sym sum_is, c.in-Fits.is, le-ltb (s.dt.nanosecond + s.delta_nanoseconds) 4294967296 (omega arith))
 
 pub returns : goal.returns
 unfolding add_seconds
 returns c =
     let ok : test c.args.dt ≡ accepted tt = passed (record_proper c.args.dt) c.refusal-refusal.ensures c.if-refusal-gt0.false in
+    let moment_fits : SFits w64 c.moment.result = search rules in
     let sum_is : c.checked_add.result ≡ sum (moment c.args.dt) c.args.delta_seconds =
-    rw (to_z-of_z (moment_fits c), to_z-of_z c.ranges.delta_seconds, c.moment.ensures) at c.checked_add.ensures
-  where
-    moment_fits : (c : tie.After-moment) → SFits w64 c.moment.result
-    moment_fits c = search rules in
+        rw (to_z-of_z moment_fits, to_z-of_z c.ranges.delta_seconds, c.moment.ensures) at c.checked_add.ensures in
     let unix_fits : SFits w64 c.in-Fits.unix = search rules in
     let offset_fits : SFits w32 c.args.dt.offset_seconds = search rules in
     let s = c.args in
@@ -63,6 +57,6 @@ returns c =
       ok,
       sym sum_is,
       c.in-Fits.is,
-      lt-ltb (s.dt.nanosecond + s.delta-nanoseconds) 4294967296 (omega arith),
+      lt-ltb (s.dt.nanosecond + s.delta_nanoseconds) 4294967296 (omega arith),
     )
     (rw (f, to_z-of_z offset_fits) at c.carry.ensures)

@@ -20,8 +20,8 @@ use Rattle.integers.specs.Integers.{natural_of, raised, sum}
 use Rattle.extended.specs.declared.ExtendedDateTime.{ExtendedDateTime}
 use Rattle.moments.proofs.from_unix_seconds.Goals as goal
 
-clocked : tie.Start → ℤ → Outcome ExtendedDateTime
-clocked s z = from_zero (natural_of z) >>= λ (k : ℕ). from_clock k s.args.nanosecond s.args.offset-seconds
+clocked : ℕ → ℤ → ℤ → Outcome ExtendedDateTime
+clocked nanosecond offset z = from_zero (natural_of z) >>= λ (k : ℕ). from_clock k nanosecond offset
 
 pub returns-then-nanosecond-gt999999999 : goal.returns-then-nanosecond-gt999999999
 unfolding from_unix_seconds
@@ -57,14 +57,14 @@ returns-then-raised-lt9223371974687556608 c =
     let s = c in
     rw (to_z-of_z s.ranges.unix_seconds, to_z-of_z s.ranges.offset_seconds, to_z-of_z wide) at c.checked_add.ensures in
     let local_fits : SFits w64 c.in-Fits.local = search rules in
-    let past : let s = c in from_unix_seconds s.args.unix_seconds s.args.nanosecond s.args.offset_seconds ≡ clocked s (c.in-Fits.local +ℤ pos 62167219200) =
+    let past : let s = c in from_unix_seconds s.args.unix_seconds s.args.nanosecond s.args.offset_seconds ≡ clocked s.args.nanosecond s.args.offset_seconds (c.in-Fits.local +ℤ pos 62167219200) =
     simp (nanosecond_ok, offset_ok, sym sum_is, c.in-Fits.is) in
     let raised_is : c.bias-raised.result ≡ raised c.in-Fits.local = rw (to_z-of_z local_fits) at c.bias-raised.ensures in
     let k = c in
     let z = k.in-Fits.local in
     let n = 9223371974687556607 - raised z in
     let e : 9223372036854775808 ≡ raised z + 62167219200 + suc n = omega (arith, raised_is) in
-    sym (past ∙ ap (clocked k) (moved_down z local_fits 62167219200 n e))
+    sym (past ∙ ap (clocked k.args.nanosecond k.args.offset_seconds) (moved_down z local_fits 62167219200 n e))
 
 pub returns : goal.returns
 unfolding natural_of clocked from_unix_seconds
@@ -77,7 +77,7 @@ returns c =
     let s = c in
     rw (to_z-of_z s.ranges.unix_seconds, to_z-of_z s.ranges.offset_seconds, to_z-of_z wide) at c.checked_add.ensures in
     let local_fits : SFits w64 c.in-Fits.local = search rules in
-    let past : let s = c in from_unix_seconds s.args.unix_seconds s.args.nanosecond s.args.offset_seconds ≡ clocked s (c.in-Fits.local +ℤ pos 62167219200) =
+    let past : let s = c in from_unix_seconds s.args.unix_seconds s.args.nanosecond s.args.offset_seconds ≡ clocked s.args.nanosecond s.args.offset_seconds (c.in-Fits.local +ℤ pos 62167219200) =
     simp (nanosecond_ok, offset_ok, sym sum_is, c.in-Fits.is) in
     let raised_is : c.bias-raised.result ≡ raised c.in-Fits.local = rw (to_z-of_z local_fits) at c.bias-raised.ensures in
     let k = c in
@@ -86,5 +86,5 @@ returns c =
     let b = raised_is in
     let n = raised z - 9223371974687556608 in
     let e : raised z + 62167219200 ≡ 9223372036854775808 + n = omega arith in
-    rw (to_z-of_z s.ranges.offset-seconds, b) at c.from_clock.ensures
-    ∙ sym (past ∙ ap (clocked s) (moved_up z local_fits 62167219200 n e))
+    rw (to_z-of_z s.ranges.offset_seconds, b) at c.from_clock.ensures
+    ∙ sym (past ∙ ap (clocked s.args.nanosecond s.args.offset_seconds) (moved_up z local_fits 62167219200 n e))
