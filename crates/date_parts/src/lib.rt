@@ -1,6 +1,8 @@
 // What the forms of calendar dates are made of, as in items/date.rs: a month and a day that exist, and a year that may be left out. A date
 // that no month has is no match.
 
+#![tactic(auto)]
+
 ghost use Rattle.std.specs.Prelude.{◌≡◌, []};
 ghost use Rattle.std.proofs.Math.Seq.{slice};
 ghost use Rattle.primitive.specs.Text.{lowered};

@@ -1,5 +1,7 @@
 // The names of the months, as in items/date.rs: `november`, `nov` and `nov.`, and `sept` too.
 
+#![tactic(auto)]
+
 ghost use Rattle.std.specs.Prelude.{◌≡◌};
 ghost use Rattle.std.proofs.Math.Seq.{slice};
 ghost use Rattle.primitive.specs.Text.{lowered};

@@ -1,5 +1,7 @@
 // The sums of a record and units of time, after the Rust's extended.rs: days, hours and minutes are so many seconds; years and months keep
 // the day, or go on from the last day that the month has.
+#![tactic(auto)]
+
 ghost use Rattle.std.specs.Prelude.{◌≡◌, ◌+◌, ◌-◌, ◌*◌, ◌≤◌, pos};
 ghost use Rattle.extended.specs.Extended.{made_of, add_units, add_days, add_hours, add_minutes, clamp, add_years, add_months};
 

@@ -1,0 +1,12 @@
+-- `comma_dated` is its definition's chain: what is skipped, a year or none, and the date. Assumes nothing.
+use Rattle.dates.proofs.Chain.{year_behind}
+use Rattle.dates.specs.Date.{comma, dated_behind, ended_year}
+use Rattle.primitive.specs.Text.{lowered}
+use Rattle.date_parts.proofs.comma_dated.Goals as goal
+
+pub returns : goal.returns
+unfolding dated_behind ended_year
+returns c =
+    let a = c.args in
+    let t = lowered a.s.now in
+    year_behind (comma t a.at) c.comma-start.result c.comma-start.ensures t a.at c.ended_year.result c.ended_year.ensures a.month a.day _ c.dated.ensures
