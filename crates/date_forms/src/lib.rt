@@ -1,6 +1,8 @@
 // The written forms of calendar dates, as in items/date.rs. Section 29.2 of the manual: `2022-11-14`, `11/14/2022`; beside them
 // `20221114` and `14.11.2022`. Those with a month's name are in `literal_dates`.
 
+#![tactic(auto)]
+
 ghost use Rattle.std.specs.Prelude.{◌≡◌};
 ghost use Rattle.std.proofs.Math.Seq.{slice};
 ghost use Rattle.primitive.specs.Text.{lowered};

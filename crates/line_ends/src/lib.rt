@@ -1,5 +1,7 @@
 // Where lines end, and what is kept of a line that has not ended.
 
+#![tactic(auto)]
+
 ghost use Rattle.std.specs.Prelude.{◌≡◌, false, ◌+◌, ◌-◌, ◌≤◌, length, drop};
 ghost use Rattle.line_ends.specs.Put.{Put};
 ghost use Rattle.line_ends.specs.Lines.{line_length, kept};

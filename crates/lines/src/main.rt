@@ -6,10 +6,13 @@
 // not ended no more than 4097 bytes: enough to refuse it. What is answered is written before the next read. A write that fails ends the
 // program.
 
-ghost use Rattle.std.specs.Prelude.{◌<◌};
+#![tactic(auto)]
+
+ghost use Rattle.std.specs.Prelude.{◌≤◌, length};
 
 use builder::Built;
 use extended::ExtendedDateTime;
+use std::io::{Read, Stdin};
 
 // Where the program stands between two turns.
 #[derive(Clone, Copy)]
@@ -26,14 +29,15 @@ struct Standing {
     done: bool,
 }
 
-fn main() {
+fn main(rt: HostRuntime) {
+    let mut stdin = rt.stdin();
     let mut input = io::large_buffer();
     let mut output = io::large_buffer();
-    run(&mut input, &mut output);
+    run(&mut stdin, &mut input, &mut output);
 }
 
 // Nothing says that the input ends, so the turns are counted down from a number that no run uses up.
-fn run(input: &mut [u8], output: &mut [u8]) {
+fn run(stdin: &mut Stdin, input: &mut [u8], output: &mut [u8]) {
     let base = lines_lib::epoch();
     let mut at = Standing {
         base,
@@ -45,7 +49,7 @@ fn run(input: &mut [u8], output: &mut [u8]) {
     };
     let mut turns = u64::MAX;
     while turns > 0 {
-        at = turn(input, output, at);
+        at = turn(stdin, input, output, at);
         if at.done {
             return;
         }
@@ -54,7 +58,7 @@ fn run(input: &mut [u8], output: &mut [u8]) {
 }
 
 // Takes what is read, as far as it goes.
-fn turn(input: &mut [u8], output: &mut [u8], at: Standing) -> Standing {
+fn turn(stdin: &mut Stdin, input: &mut [u8], output: &mut [u8], at: Standing) -> Standing {
     let from = at.from;
     let end = at.end;
     if end < from {
@@ -64,11 +68,11 @@ fn turn(input: &mut [u8], output: &mut [u8], at: Standing) -> Standing {
         return ended(at);
     }
     if at.begun {
-        return answer(input, output, at);
+        return answer(stdin, input, output, at);
     }
     let line = line_ends::first_line_end(&input[from..end]);
     if line == end - from {
-        return read_on(input, at);
+        return read_on(stdin, input, at);
     }
     let base = at.base;
     let behind = from + line;
@@ -99,7 +103,7 @@ fn ended(mut at: Standing) -> Standing {
 }
 
 // Answers whole lines, and reads on where none is left.
-fn answer(input: &mut [u8], output: &mut [u8], mut at: Standing) -> Standing {
+fn answer(stdin: &mut Stdin, input: &mut [u8], output: &mut [u8], mut at: Standing) -> Standing {
     let from = at.from;
     let end = at.end;
     if end < from {
@@ -118,11 +122,11 @@ fn answer(input: &mut [u8], output: &mut [u8], mut at: Standing) -> Standing {
     if progress.full {
         return at;
     }
-    read_on(input, at)
+    read_on(stdin, input, at)
 }
 
 // Keeps the line that has not ended, at the front, and reads behind it. The end of the input ends the line.
-fn read_on(input: &mut [u8], mut at: Standing) -> Standing {
+fn read_on(stdin: &mut Stdin, input: &mut [u8], mut at: Standing) -> Standing {
     if !at.more {
         return ended(at);
     }
@@ -130,9 +134,8 @@ fn read_on(input: &mut [u8], mut at: Standing) -> Standing {
     if input.len() <= have {
         return ended(at);
     }
-    let got = libc::read(0, &mut input[have..]);
-    if got > 0 {
-        let n = io::count(got, &input[have..]);
+    let n = received(stdin, &mut input[have..]);
+    if n > 0 {
         at.from = 0;
         at.end = have + n;
         return at;
@@ -145,6 +148,16 @@ fn read_on(input: &mut [u8], mut at: Standing) -> Standing {
     at.end = have + 1;
     at.more = false;
     at
+}
+
+// How many bytes were read into a part of the buffer. A read that fails counts as the end of the input.
+fn received(stdin: &mut Stdin, part: &mut [u8]) -> usize
+    ensures { result ≤ length part.new }
+{
+    match stdin.read(part) {
+        Ok(n) => n,
+        Err(_) => 0,
+    }
 }
 
 fn end_line(input: &mut [u8], place: usize) {

@@ -1,5 +1,7 @@
 // Calendar dates with a month's name, as in items/date.rs. Section 29.2 of the manual: `14 November 2022`, `14nov2022`, `Nov 14, 2022`.
 
+#![tactic(auto)]
+
 ghost use Rattle.std.specs.Prelude.{◌≡◌};
 ghost use Rattle.primitive.specs.Text.{lowered};
 ghost use Rattle.dates.specs.Date.{literal1, literal2, literal3, literal, date_answer};

@@ -4,6 +4,8 @@
 //   +23:60 are read, and +24:01 is not.
 // - `timezone_offset` yields to a relative item, `time_zone_correction` does not: `10:00 +2 hours` is 10:00 at +02:00, and `hours`.
 
+#![tactic(auto)]
+
 ghost use Rattle.std.specs.Prelude.{◌≡◌, []};
 ghost use Rattle.primitive.specs.Text.{lowered};
 ghost use Rattle.primitive.specs.Primitive.{u32_answer};

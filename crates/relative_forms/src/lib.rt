@@ -4,6 +4,8 @@
 // - Weeks and fortnights are days. A number of days that no i32 holds is no match.
 // - The words `tomorrow`, `yesterday`, `today` and `now` are not read.
 
+#![tactic(auto)]
+
 ghost use Rattle.std.specs.Prelude.{◌≡◌, ℕ, ◌<◌, ◌≤◌, ◌^◌, List, length, neg_ℤ};
 ghost use Rattle.std.proofs.Math.Seq.{slice};
 ghost use Rattle.std.specs.Int.Signed.{mag};

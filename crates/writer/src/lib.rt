@@ -3,6 +3,8 @@
 // The text is built as one value of 41 bytes and a length, which goes from step to step, and is
 // copied out at the end. A record that `new` refuses gets `new`'s number, an offset that is not whole
 // minutes 20, a lent place that is too short 19; a refusal writes nothing.
+#![tactic(auto)]
+
 ghost use Rattle.std.specs.Prelude.{◌≡◌, [], ◌∷◌, ◌+◌, ◌<◌, ◌≤◌, max, nat_abs, length};
 ghost use Rattle.extended.specs.Outcome.{refused};
 ghost use Rattle.writer.specs.Writer.{fixed, width, negative, sign_of, field, date_part, time_part, offset_part, text_of, written, bytes_of, written_answer, over, shown, Longer};
