@@ -133,6 +133,23 @@ def unmodule(text):
     return "\n".join(out)
 
 
+def inline(text):
+    """A shorthand for a term over the record (`abbrev R : tie.X → T`, `R c = ..`) is written out where it is used."""
+    while True:
+        m = re.search(rf"(?m)^((?:--[^\n]*\n)*)abbrev ({NAME}) : tie\.[^\n→]* → [^\n]*\n\2 (\w+) = ([^\n]*)\n", text)
+        if not m:
+            return text
+        text = text[: m.start()] + text[m.end() :]
+        name, var, rhs = m[2], m[3], m[4]
+
+        def at(arg):
+            return "(" + re.sub(rf"(?<![^\s(){{}}\[\],;]){re.escape(var)}(?=[\s(){{}}\[\],;.]|$)", lambda _: arg, rhs) + ")"
+
+        arg = r"(\w+(?:\.before)*)"
+        text = re.sub(rf"\({re.escape(name)} {arg}\)", lambda k: at(k[1]), text)
+        text = re.sub(rf"(?<![^\s(){{}}\[\],;]){re.escape(name)} {arg}(?![\w.])", lambda k: at(k[1]), text)
+
+
 def signature(block):
     lines = block.split("\n")
     while lines and lines[0].startswith("--"):
@@ -142,7 +159,7 @@ def signature(block):
 
 
 def convert(fun, text, report):
-    bs = blocks(unmodule(text))
+    bs = blocks(unmodule(inline(text)))
     head, uses, rest = [], [], []
     for b in bs:
         lines = b.split("\n")

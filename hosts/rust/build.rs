@@ -1,13 +1,13 @@
-//! Links the static library of this repository; `rt staticlib seqtullo` builds it.
+//! Links the static library of this repository; `rt lib` in crates/seqtullo builds it.
 
 use std::path::Path;
 
 fn main() {
     let root = Path::new(env!("CARGO_MANIFEST_DIR")).join("../..");
-    let folder = root.join("target/staticlib");
+    let folder = root.join("crates/seqtullo/out");
     let archive = folder.join("libseqtullo.a");
     if !archive.exists() {
-        panic!("no {}: run `rt staticlib seqtullo` at the root of the repository", archive.display());
+        panic!("no {}: run `rt lib` in crates/seqtullo", archive.display());
     }
     println!("cargo:rustc-link-search=native={}", folder.display());
     println!("cargo:rustc-link-lib=static=seqtullo");

@@ -1,5 +1,7 @@
 // The building of a record from the base and what the items give, as `build_extended` in items/builder.rs.
 
+#![tactic(auto)]
+
 ghost use Rattle.std.specs.Prelude.{◌≡◌, min, take};
 ghost use Rattle.extended.specs.Extended.{made_of, accept};
 ghost use Rattle.extended.specs.Placed.{placed};

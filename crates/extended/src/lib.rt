@@ -193,6 +193,7 @@ pub fn from_parts(date: DateParts, time: TimeParts, offset_seconds: i32) -> Exte
 }
 
 // The tests of `new`, in its order.
+#[tactic(auto, unfolding(crate::specs::Extended::test_date), using(calendar::proofs::Counting::month_bounds))]
 fn date_refusal(date: DateParts) -> u32
     ensures { result ≡ number (test_date date) }
 {
@@ -236,6 +237,7 @@ fn time_refusal(time: TimeParts) -> u32
     0
 }
 
+#[tactic(auto, unfolding(crate::specs::Extended::test_offset))]
 pub fn offset_refusal(offset_seconds: i32) -> u32
     ensures { result ≡ number (test_offset offset_seconds) }
 {

@@ -1,6 +1,8 @@
 // The 28 bytes of a packet's item, read into fields. The items that fields are, and the fields of an item, stand on this crate; their
 // definitions and laws are here.
 
+#![tactic(auto)]
+
 ghost use Rattle.std.specs.Prelude.{◌≡◌, ◌<◌, get_or};
 ghost use Rattle.fields.specs.Fields.{little, signed, unsigned, small, fields_from, fields_at, small_of, digits_used};
 

@@ -20,6 +20,7 @@ every p [] = true
 every p (e ∷ es) = p e && every p es
 
 pub every_one : {A : Type 0} (p : A → Bool) {e : A} {es : List A} → every p es ≡ true → Memᴰ e es → p e ≡ true
+every_one p {es = []} h m = elim m [ ]
 every_one p {es = x ∷ xs} h (Memᴰ.head z) = ap p z ∙ (halves (p x) (every p xs) h).0
 every_one p {es = x ∷ xs} h (Memᴰ.tail m) = every_one p (halves (p x) (every p xs) h).1 m
 
@@ -54,6 +55,7 @@ same_itself (b ∷ bs) = rw (eq-eqb b b refl) (same_itself bs)
 
 found : {A : Type 0} (text : List ℕ) (at : ℕ) {e : String × A} {es : List (String × A)} → distinct es ≡ true → Memᴰ e es → named es (bytes e.0) text at ≡ matched e.1 at
 unfolding distinct named
+found text at {es = []} h m = elim m [ ]
 found text at {es = x ∷ xs} h (Memᴰ.head z) = rw (z, same_itself (bytes x.0))
 found text at {e} {es = x ∷ xs} h (Memᴰ.tail m) =
     let t = halves (every (λ d. not (same (bytes d.0) (bytes x.0))) xs) (distinct xs) h in

@@ -1,6 +1,8 @@
 // Items heeded one after the other, as in items/builder.rs: each is set under the rules, and the first broken rule stays. A pure number,
 // which comes by packet only, is the year of a date that has none, or else a time.
 
+#![tactic(auto)]
+
 ghost use Rattle.std.specs.Prelude.{◌≡◌, [], ◌∷◌, ◌≤◌, take};
 ghost use Rattle.primitive.specs.Text.{lowered};
 ghost use Rattle.extended.specs.Placed.{fine};

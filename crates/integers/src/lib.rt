@@ -72,6 +72,7 @@ pub enum Natural {
 }
 
 // x, where it is not below 0.
+#[tactic(auto, unfolding(crate::specs::Integers::natural_of))]
 pub fn to_natural(x: i64) -> Natural
     ensures { result ≡ natural_of x }
 {

@@ -1,5 +1,7 @@
 // The reader of an item of a text, as in items/mod.rs: a date with a time, a date, a time or a relative item.
 
+#![tactic(auto)]
+
 ghost use Rattle.std.specs.Prelude.{◌≡◌};
 ghost use Rattle.primitive.specs.Text.{lowered};
 ghost use Rattle.dates.specs.Date.{date_answer};

@@ -1,5 +1,7 @@
 // What the items of a text are, as in items/mod.rs, and a date with a time. The kinds of items that come by packet only stand here too.
 
+#![tactic(auto)]
+
 pub mod combined;
 
 ghost use Rattle.std.specs.Prelude.{◌≡◌};

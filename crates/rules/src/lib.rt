@@ -1,6 +1,8 @@
 // Which items may stand together, as in items/builder.rs. The builder holds at most one item of each kind but the relative one, and goes by
 // value; the relative items are kept by the loop over the items, in 64 places and a count.
 
+#![tactic(auto)]
+
 ghost use Rattle.std.specs.Prelude.{◌≡◌, ◌&&◌, ◌||◌};
 ghost use Rattle.rules.specs.Rules.{is_date, is_time, is_weekday, is_zone, is_offset, has_offset, empty, need_midnight, set_date, set_time, set_weekday, set_zone, set_date_time, set_of};
 

@@ -4,6 +4,8 @@
 // - Hour 0 with am or pm stops the reading; so does a correction out of range.
 // - What does not fit is left unread: in `10:00:60` the time ends in front of `:60`.
 
+#![tactic(auto)]
+
 ghost use Rattle.std.specs.Prelude.{◌≡◌, ◌+◌, ◌%◌};
 ghost use Rattle.primitive.specs.Answer.{matched, if};
 ghost use Rattle.primitive.specs.Text.{lowered};
