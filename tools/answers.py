@@ -351,8 +351,15 @@ def sub_one(tok, subst):
 def as_c(text, var, fun):
     if var != "c":
         text = re.sub(rf"(?<![^\s(){{}}\[\],;]){re.escape(var)}(?=[\s(){{}}\[\],;.]|$)", "c", text)
-    aliases = ["c"] + re.findall(r"let (\w+) = c(?:\.before)+ in", text)
-    text = re.sub(r"let (\w+) = c((?:\.before)*) in", lambda m: f"let {m[1]} = c in", text)
+    # a name for a record of before is a name for c
+    aliases = ["c"]
+    while True:
+        m = re.search(r"let (\w+) = (" + "|".join(aliases) + r")((?:\.before)*) in", text)
+        named = [n for n in re.findall(r"let (\w+) = (?:" + "|".join(aliases) + r")(?:\.before)* in", text) if n not in aliases]
+        if not named:
+            break
+        aliases += named
+    text = re.sub(r"let (\w+) = (" + "|".join(aliases) + r")((?:\.before)*) in", lambda m: f"let {m[1]} = {m[2]} in", text)
     return fun.flatten(text, aliases)
 
 

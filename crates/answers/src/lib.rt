@@ -1,6 +1,8 @@
 // The answer to one line of the line program, put into a lent place: number 0 and the text of a record, or the number and the place of a
 // refusal.
 
+#![tactic(auto)]
+
 ghost use Rattle.std.specs.Prelude.{◌≡◌, [], ◌∷◌, ◌+◌, ◌≤◌, ◌<◌, length};
 ghost use Rattle.extended.specs.Outcome.{number};
 ghost use Rattle.builder.specs.Building.{built_of};

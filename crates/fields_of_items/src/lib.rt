@@ -1,5 +1,7 @@
 // The fields of an item, as a packet has them, and whether two rows of fields are the same.
 
+#![tactic(auto)]
+
 ghost use Rattle.std.specs.Prelude.{◌≡◌, ◌+◌, ◌≤◌};
 ghost use Rattle.items.specs.declared.Item.TheVariants as item;
 ghost use Rattle.items.specs.Items.{day_index};

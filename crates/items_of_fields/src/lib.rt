@@ -2,6 +2,8 @@
 //
 // What is read of the fields is written again and compared, so that every field and every flag that the item's kind does not use has to be 0.
 
+#![tactic(auto)]
+
 ghost use Rattle.std.specs.Prelude.{◌≡◌, ◌<◌};
 ghost use Rattle.items.specs.declared.Item.TheVariants as item;
 ghost use Rattle.fields.specs.Fields.{year_of, date_of, offset_of, time_offset_of, time_of, later_day, day_of, weekday_of, later_unit, unit_of, relative_of, later_kind, item_of, date_in_range, offset_in_range, time_in_range, zone_in_range, pure_in_range, in_range, fitting, unpacked, found_of, day_found};

@@ -5,6 +5,8 @@
 //
 // The items are walked where they lie: nothing is copied but the item at hand.
 
+#![tactic(auto)]
+
 ghost use Rattle.std.specs.Prelude.{◌≡◌, ◌<◌, ◌≤◌, length};
 ghost use Rattle.primitive.specs.Text.{lowered};
 ghost use Rattle.extended.specs.Outcome.{number};

@@ -1,6 +1,8 @@
 // A text read under a base: the base as `new` tests it, the text's length, its first foreign byte, its items, their rules, and the record
 // that they build.
 
+#![tactic(auto)]
+
 ghost use Rattle.std.specs.Prelude.{◌≡◌};
 ghost use Rattle.primitive.specs.Text.{lower, lowered};
 ghost use Rattle.builder.specs.Building.{built_of};

@@ -1,0 +1,24 @@
+-- `same_date` is its definition. Assumes nothing.
+use Rattle.fields.proofs.Cases.{cases}
+use Rattle.fields.specs.Fields.{same_date}
+use Rattle.fields_of_items.proofs.same_date.Goals as goal
+
+pub returns-then-a-b : goal.returns-then-a-b
+unfolding same_date
+returns-then-a-b c = search cases
+
+pub returns-then-a-b-2 : goal.returns-then-a-b-2
+unfolding same_date
+returns-then-a-b-2 c = search cases
+
+pub returns-then-a-b-3 : goal.returns-then-a-b-3
+unfolding same_date
+returns-then-a-b-3 c = search cases
+
+pub returns-then-a-b-4 : goal.returns-then-a-b-4
+unfolding same_date
+returns-then-a-b-4 c = search cases
+
+pub returns : goal.returns
+unfolding same_date
+returns c = search cases

@@ -1,0 +1,12 @@
+-- `date_in_range` is its definition. Assumes nothing.
+use Rattle.fields.proofs.Cases.{cases}
+use Rattle.items_of_fields.proofs.date_in_range.Goals as goal
+
+pub returns-then-year-gt2147485547 : goal.returns-then-year-gt2147485547
+returns-then-year-gt2147485547 c = search cases
+
+pub returns-else-year-gt2147485547 : goal.returns-else-year-gt2147485547
+returns-else-year-gt2147485547 c = search cases
+
+pub returns-in-Absent : goal.returns-in-Absent
+returns-in-Absent c = search cases
