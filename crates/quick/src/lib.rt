@@ -3,6 +3,8 @@
 //
 // The quick readers answer a match only where the definitions read the same; their promises say so. Where they answer none, nothing is said.
 
+#![tactic(auto)]
+
 mod clocks;
 mod days;
 mod rows;
