@@ -1,5 +1,7 @@
 // The answers of the line program, on slices: what is printed for the whole lines of a chunk of input.
 
+#![tactic(auto)]
+
 ghost use Rattle.std.specs.Prelude.{◌≡◌, ◌-◌, ◌≤◌, length};
 ghost use Rattle.reading.specs.Reading.{read_text};
 ghost use Rattle.answers.specs.Answers.{line_answer, Put};

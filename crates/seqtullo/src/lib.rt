@@ -1,5 +1,7 @@
 // The library as hosts call it: every function takes any arguments, answers by a number of the table
 // of answers, and a refusal carries the blank record, or 0 where a number was wanted.
+#![tactic(auto)]
+
 ghost use Rattle.std.specs.Prelude.{◌≡◌, length, ◌≤◌};
 ghost use Rattle.extended.specs.Calendar.{month_days};
 ghost use Rattle.extended.specs.Extended.{make, date, time, accept, from_unix_seconds, unix_seconds, add_days, add_hours, add_minutes, add_seconds, add_years, add_months, weekday_monday0, day_of_year};
