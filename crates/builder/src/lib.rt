@@ -79,6 +79,7 @@ pub(crate) fn build_extended(
 }
 
 // The clock at its start, and then the date, the time and the weekday. `bare`: there is no relative item.
+#[tactic(auto, using(crate::proofs::Cases::cases), unfolding(crate::specs::Building::absolute))]
 fn absolute(builder: DateTimeBuilder, bare: bool, base: ExtendedDateTime) -> Made
     ensures { made_of result ≡ absolute builder bare base }
 {
@@ -100,6 +101,7 @@ fn absolute(builder: DateTimeBuilder, bare: bool, base: ExtendedDateTime) -> Mad
     on_weekday(weekday, dt)
 }
 
+#[tactic(auto, using(crate::proofs::Cases::cases), unfolding(crate::specs::Building::start))]
 fn start(builder: DateTimeBuilder, bare: bool, base: ExtendedDateTime) -> Made
     ensures { made_of result ≡ start builder bare base }
 {
@@ -127,6 +129,7 @@ fn accept(base: ExtendedDateTime) -> Made
     ExtendedDateTime::new(date, time, base.offset_seconds)
 }
 
+#[tactic(auto, using(crate::proofs::Cases::cases))]
 fn on_date(given: GivenDate, dt: ExtendedDateTime) -> Made
     ensures { made_of result ≡ on_date given dt }
 {
@@ -183,6 +186,7 @@ fn on_weekday(given: GivenWeekday, dt: ExtendedDateTime) -> Made
 }
 
 // Forward from today to the weekday.
+#[tactic(auto, using(crate::proofs::Cases::cases), unfolding(crate::specs::Building::forwarded))]
 fn forwarded(weekday: Weekday, today: u32, dt: ExtendedDateTime) -> Made
     ensures { made_of result ≡ forwarded weekday today dt }
 {
@@ -202,6 +206,7 @@ fn delta(weekday: Weekday, today: u32) -> Days
 }
 
 // The days from one day of the week to the next that is another, 0 to itself.
+#[tactic(auto, using(crate::proofs::Cases::cases), unfolding(crate::specs::Building::ahead))]
 fn ahead(today: u32, target: u32) -> u32
     ensures { result ≡ ahead today target }
 {
@@ -289,6 +294,7 @@ fn add_relative(relative: Relative, dt: ExtendedDateTime) -> Made
     }
 }
 
+#[tactic(auto, using(crate::proofs::Cases::cases))]
 fn on_zone(given: GivenZone, dt: ExtendedDateTime) -> Made
     ensures { made_of result ≡ on_zone given dt }
 {

@@ -14,6 +14,7 @@ use dates::year::ReadDigits;
 use primitive::{ReadPlace, ReadU8, ReadU64};
 
 // `2022-11-14`; the combined item begins with it too.
+#[tactic(auto, using(dates::proofs::Chain::dates), unfolding(dates::specs::Date::iso1))]
 pub fn iso1(s: &[u8], at: usize) -> ReadDate
     ensures { date_answer result ≡ iso1 (lowered s.now) at }
 {
@@ -65,6 +66,7 @@ fn u8_from_str(s: &[u8], from: usize, to: usize) -> ReadU8
 }
 
 // A date that is not in ISO format; `iso1` and `iso2` are tried before.
+#[tactic(auto, using(dates::proofs::Chain::dates), unfolding(dates::specs::Date::parse_non_iso))]
 pub fn parse_non_iso(s: &[u8], at: usize) -> ReadDate
     ensures { date_answer result ≡ parse_non_iso (lowered s.now) at }
 {
@@ -78,6 +80,7 @@ pub fn parse_non_iso(s: &[u8], at: usize) -> ReadDate
 }
 
 // The European `14.11.2022`, or `14.11.` without a year.
+#[tactic(auto, using(dates::proofs::Chain::dates), unfolding(dates::specs::Date::dotted))]
 fn dotted(s: &[u8], at: usize) -> ReadDate
     ensures { date_answer result ≡ dotted (lowered s.now) at }
 {
@@ -97,6 +100,7 @@ fn dotted(s: &[u8], at: usize) -> ReadDate
 }
 
 // `2022/11/14`, `11/14/2022` or `11/14`.
+#[tactic(auto, using(dates::proofs::Chain::dates), unfolding(dates::specs::Date::us))]
 fn us(s: &[u8], at: usize) -> ReadDate
     ensures { date_answer result ≡ us (lowered s.now) at }
 {
@@ -119,6 +123,7 @@ fn us_rest(s: &[u8], at: usize, from: usize, to: usize, number: u8) -> ReadDate
 }
 
 // The part behind the second slash, where there is one.
+#[tactic(auto, using(dates::proofs::Chain::dates), unfolding(dates::specs::Date::slash_part))]
 fn slash_part(s: &[u8], at: usize) -> ReadYear
     ensures { year_answer (lowered s.now) at result ≡ slash_part (lowered s.now) at }
 {

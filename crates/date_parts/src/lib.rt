@@ -68,6 +68,7 @@ fn dated(s: &[u8], at: usize, year: ReadYear, month: u8, day: u8) -> ReadDate
 }
 
 // A blank, or the end of the text.
+#[tactic(auto, using(dates::proofs::Chain::dates), unfolding(dates::specs::Date::blank_or_end))]
 fn blank_or_end(s: &[u8], at: usize) -> ReadPlace
     ensures { place_answer result ≡ blank_or_end (lowered s.now) at }
 {
@@ -88,6 +89,7 @@ fn end_of_text(s: &[u8], at: usize) -> ReadPlace
 
 // A year that stands at `start`, with a blank or the end of the text behind it. Where there is none, what was read from `at` to
 // `start` is given back.
+#[tactic(auto, using(dates::proofs::Chain::dates), unfolding(dates::specs::Date::ended))]
 fn ended_year(s: &[u8], at: usize, start: usize) -> ReadYear
     ensures { year_answer (lowered s.now) at result ≡ or_else (ended (lowered s.now) start) (matched unwritten at) }
 {
@@ -101,6 +103,7 @@ fn ended_year(s: &[u8], at: usize, start: usize) -> ReadYear
 }
 
 // The place behind a hyphen, or the same place.
+#[tactic(auto, using(dates::proofs::Chain::dates), unfolding(dates::specs::Date::hyphen))]
 pub fn hyphen(s: &[u8], at: usize) -> usize
     ensures { matched tt result ≡ hyphen (lowered s.now) at }
 {
@@ -111,6 +114,7 @@ pub fn hyphen(s: &[u8], at: usize) -> usize
 }
 
 // GNU quirk: a comma only with a blank behind it, as in `Nov 14, 2022`.
+#[tactic(auto, using(dates::proofs::Chain::dates), unfolding(dates::specs::Date::comma))]
 fn comma(s: &[u8], at: usize) -> usize
     ensures { matched tt result ≡ comma (lowered s.now) at }
 {

@@ -8,6 +8,8 @@ ghost use Rattle.dates.specs.Year.{widened_by, year_from_str, year_str, digits_a
 
 use primitive::{ReadPlace, ReadU32, ReadU64};
 
+const LAST_YEAR: u64 = 2147485547;
+
 // Where digits stand: from one place up to another.
 #[derive(Clone, Copy)]
 pub enum ReadDigits {
@@ -23,13 +25,14 @@ pub fn year_from_str(s: &[u8], from: usize, to: usize) -> ReadU32
         return ReadU32::NoMatch;
     };
     let year = widen(digit_count(s, from, to), year);
-    if year > 2147485547 {
+    if year > LAST_YEAR {
         return ReadU32::NoMatch;
     }
     ReadU32::Match(year as u32, to)
 }
 
 // GNU quirk: only a year of two digits is widened.
+#[tactic(auto, unfolding(crate::specs::Year::widened_by))]
 fn widen(digits: usize, year: u64) -> u64
     requires { year ≤ 4294967295 }
     ensures { result ≡ widened_by digits year }

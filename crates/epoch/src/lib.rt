@@ -11,6 +11,7 @@ ghost use Rattle.primitive.specs.Epoch.{point_or_comma, nanoseconds, fraction, s
 
 use primitive::{ReadPlace, ReadSecAndNsec, ReadU32, ReadU64, SecAndNsec};
 
+#[tactic(auto, using(primitive::proofs::Chain::chain), unfolding(primitive::specs::Epoch::sec_and_nsec))]
 pub fn sec_and_nsec(s: &[u8], at: usize) -> ReadSecAndNsec
     ensures { sec_and_nsec_answer result ≡ sec_and_nsec (lowered s.now) at }
 {
@@ -24,6 +25,7 @@ pub fn sec_and_nsec(s: &[u8], at: usize) -> ReadSecAndNsec
 }
 
 // A point or comma and the digits behind it, as nanoseconds.
+#[tactic(auto, using(primitive::proofs::Fractions::fractions), unfolding(primitive::specs::Epoch::fraction))]
 pub fn fraction(s: &[u8], at: usize) -> ReadU32
     ensures { u32_answer result ≡ fraction (lowered s.now) at }
 {
@@ -36,6 +38,7 @@ pub fn fraction(s: &[u8], at: usize) -> ReadU32
     ReadU32::Match(nanoseconds(s, start, end), end)
 }
 
+#[tactic(auto, using(primitive::proofs::Chain::chain), unfolding(primitive::specs::Epoch::point_or_comma))]
 fn point_or_comma(s: &[u8], at: usize) -> ReadPlace
     ensures { place_answer result ≡ point_or_comma (lowered s.now) at }
 {

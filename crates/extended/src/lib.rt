@@ -219,6 +219,7 @@ fn date_refusal(date: DateParts) -> u32
     0
 }
 
+#[tactic(auto, unfolding(crate::specs::Extended::test_time))]
 fn time_refusal(time: TimeParts) -> u32
     ensures { result ≡ number (test_time time) }
 {
@@ -251,6 +252,7 @@ pub fn offset_refusal(offset_seconds: i32) -> u32
 }
 
 // The Rust's quirk: a year that no u32 holds is refused as a negative one is.
+#[tactic(auto, unfolding(crate::specs::Extended::test_year))]
 pub fn year_refusal(year: u64) -> u32
     ensures { result ≡ number (test_year year) }
 {

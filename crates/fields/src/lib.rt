@@ -62,6 +62,7 @@ fn byte_at(bytes: &[u8], at: usize) -> u8
     0
 }
 
+#[tactic(auto, using(crate::proofs::Numbers::two))]
 fn u16_from(bytes: &[u8], at: usize) -> u16
     requires { at < 1099511627776 }
     ensures { result ≡ little 2 at bytes.now }
@@ -69,6 +70,7 @@ fn u16_from(bytes: &[u8], at: usize) -> u16
     byte_at(bytes, at) as u16 + 256 * (byte_at(bytes, at + 1) as u16)
 }
 
+#[tactic(auto, using(crate::proofs::Numbers::four))]
 fn u32_from(bytes: &[u8], at: usize) -> u32
     requires { at < 1099511627774 }
     ensures { result ≡ little 4 at bytes.now }
@@ -76,6 +78,7 @@ fn u32_from(bytes: &[u8], at: usize) -> u32
     u16_from(bytes, at) as u32 + 65536 * (u16_from(bytes, at + 2) as u32)
 }
 
+#[tactic(auto, using(crate::proofs::Numbers::eight))]
 fn u64_from(bytes: &[u8], at: usize) -> u64
     requires { at < 1099511627770 }
     ensures { result ≡ little 8 at bytes.now }

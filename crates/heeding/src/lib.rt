@@ -23,6 +23,7 @@ pub fn start() -> Standing
 }
 
 // One item more, and its index. The first broken rule stays.
+#[tactic(auto, using(rules::proofs::Cases::cases))]
 pub fn heed(standing: Standing, digits: &[u8], item: Item, index: usize) -> Standing
     ensures { standing_of result ≡ heed (lowered digits.now) index item (standing_of standing) }
 {
@@ -42,6 +43,7 @@ fn ruled(set: Set, index: usize) -> Standing
 }
 
 // The place of a broken rule: the item's index, and 0 for a year that a pure number gives.
+#[tactic(auto, using(rules::proofs::Cases::cases))]
 fn rule_place(number: u32, index: usize) -> usize
     ensures { result ≡ rule_place number index }
 {
@@ -76,6 +78,7 @@ fn place_for(relative: Relative, count: usize) -> Found
 }
 
 // One item more. A relative item is kept by the caller.
+#[tactic(auto, using(rules::proofs::Cases::cases))]
 fn set_item(builder: DateTimeBuilder, digits: &[u8], item: Item) -> Set
     ensures { set_of result ≡ set_item (lowered digits.now) builder item }
 {
@@ -92,6 +95,7 @@ fn set_item(builder: DateTimeBuilder, digits: &[u8], item: Item) -> Set
 }
 
 // A pure number is the year of a date that has none, or else a time. Its digits stand in `digits`.
+#[tactic(auto, using(rules::proofs::Cases::cases), unfolding(rules::specs::Rules::set_pure))]
 fn set_pure(builder: DateTimeBuilder, digits: &[u8], pure: Pure) -> Set
     ensures { set_of result ≡ set_pure (lowered digits.now) builder pure }
 {
@@ -115,6 +119,7 @@ fn set_pure_behind(builder: DateTimeBuilder, digits: &[u8], pure: Pure, date: Da
     }
 }
 
+#[tactic(auto, using(rules::proofs::Cases::cases), unfolding(rules::specs::Rules::set_pure_year))]
 fn set_pure_year(builder: DateTimeBuilder, digits: &[u8], date: Date, from: usize, to: usize) -> Set
     ensures { set_of result ≡ set_pure_year (lowered digits.now) builder date from to }
 {
@@ -138,6 +143,7 @@ fn set_pure_year(builder: DateTimeBuilder, digits: &[u8], date: Date, from: usiz
     })
 }
 
+#[tactic(auto, using(rules::proofs::Cases::cases), unfolding(rules::specs::Rules::set_pure_time))]
 fn set_pure_time(builder: DateTimeBuilder, digits: &[u8], pure: Pure) -> Set
     ensures { set_of result ≡ set_pure_time (lowered digits.now) builder pure }
 {

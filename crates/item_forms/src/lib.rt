@@ -15,6 +15,7 @@ use times::time::ReadTime;
 
 // The item at a place. The first byte behind the space says what it can be: below 48, the digit 0, it begins no date and no time, and above
 // 57, the digit 9, no ISO date.
+#[tactic(auto, using(items::proofs::Fronts::fronts))]
 pub fn parse_item(s: &[u8], at: usize) -> ReadItem
     ensures { item_answer result ≡ parse_item (lowered s.now) at }
 {
@@ -32,6 +33,7 @@ pub fn parse_item(s: &[u8], at: usize) -> ReadItem
 }
 
 // The same where it may begin with a number.
+#[tactic(auto, using(items::proofs::Chain::items), unfolding(items::specs::Items::parse_item))]
 fn number_item(s: &[u8], at: usize) -> ReadItem
     ensures { item_answer result ≡ parse_item (lowered s.now) at }
 {
@@ -43,6 +45,7 @@ fn number_item(s: &[u8], at: usize) -> ReadItem
 }
 
 // An ISO date, with a time or alone. The date is read once.
+#[tactic(auto, using(items::proofs::Chain::items), unfolding(items::specs::Items::iso_item))]
 fn iso_item(s: &[u8], at: usize) -> ReadItem
     ensures { item_answer result ≡ iso_item (lowered s.now) at }
 {
@@ -52,6 +55,7 @@ fn iso_item(s: &[u8], at: usize) -> ReadItem
     dated_item(s, next, date)
 }
 
+#[tactic(auto, using(items::proofs::Chain::items), unfolding(items::specs::Items::iso_date))]
 fn iso_date(s: &[u8], at: usize) -> ReadDate
     ensures { date_answer result ≡ iso_date (lowered s.now) at }
 {
@@ -62,6 +66,7 @@ fn iso_date(s: &[u8], at: usize) -> ReadDate
 }
 
 // A date with the time that follows it, or alone.
+#[tactic(auto, using(items::proofs::Chain::items), unfolding(items::specs::Items::dated_item, items::specs::Items::date_time_item))]
 fn dated_item(s: &[u8], at: usize, date: Date) -> ReadItem
     ensures { item_answer result ≡ dated_item date (lowered s.now) at }
 {
@@ -72,6 +77,7 @@ fn dated_item(s: &[u8], at: usize, date: Date) -> ReadItem
     }
 }
 
+#[tactic(auto, using(items::proofs::Chain::items), unfolding(items::specs::Items::other_item, items::specs::Items::date_item))]
 fn other_item(s: &[u8], at: usize) -> ReadItem
     ensures { item_answer result ≡ other_item (lowered s.now) at }
 {
@@ -81,6 +87,7 @@ fn other_item(s: &[u8], at: usize) -> ReadItem
     ReadItem::Match(Item::Date(date), next)
 }
 
+#[tactic(auto, using(items::proofs::Chain::items), unfolding(items::specs::Items::time_or_relative, items::specs::Items::time_item))]
 fn time_or_relative(s: &[u8], at: usize) -> ReadItem
     ensures { item_answer result ≡ time_or_relative (lowered s.now) at }
 {
@@ -91,6 +98,7 @@ fn time_or_relative(s: &[u8], at: usize) -> ReadItem
     }
 }
 
+#[tactic(auto, using(items::proofs::Chain::items), unfolding(items::specs::Items::relative_item))]
 fn relative_item(s: &[u8], at: usize) -> ReadItem
     ensures { item_answer result ≡ relative_item (lowered s.now) at }
 {

@@ -25,6 +25,7 @@ pub enum ReadDateTime {
 }
 
 // The separator and the time of an item whose ISO date has been read.
+#[tactic(auto, using(crate::proofs::Chain::items), unfolding(crate::specs::Combined::parse_time_after_date))]
 pub fn parse_time_after_date(s: &[u8], at: usize, date: Date) -> ReadDateTime
     ensures { date_time_answer result ≡ parse_time_after_date date (lowered s.now) at }
 {
@@ -39,6 +40,7 @@ pub fn parse_time_after_date(s: &[u8], at: usize, date: Date) -> ReadDateTime
 }
 
 // A `t` behind space, or a blank and the space behind it.
+#[tactic(auto, using(crate::proofs::Chain::items), unfolding(crate::specs::Combined::separator))]
 fn separator(s: &[u8], at: usize) -> ReadPlace
     ensures { place_answer result ≡ separator (lowered s.now) at }
 {
@@ -52,6 +54,7 @@ fn separator(s: &[u8], at: usize) -> ReadPlace
 }
 
 // An ISO time that no am or pm follows, or else any time.
+#[tactic(auto, using(crate::proofs::Chain::items), unfolding(crate::specs::Combined::combined_time))]
 fn combined_time(s: &[u8], at: usize) -> ReadTime
     ensures { time_answer result ≡ combined_time (lowered s.now) at }
 {
@@ -63,6 +66,7 @@ fn combined_time(s: &[u8], at: usize) -> ReadTime
 }
 
 // An ISO time that no am or pm follows; one that stops is no match.
+#[tactic(auto, using(crate::proofs::Chain::items), unfolding(crate::specs::Combined::iso_alone))]
 fn iso_alone(s: &[u8], at: usize) -> ReadTime
     ensures { time_answer result ≡ attempt iso_alone (lowered s.now) at }
 {
@@ -73,6 +77,7 @@ fn iso_alone(s: &[u8], at: usize) -> ReadTime
     }
 }
 
+#[tactic(auto, using(crate::proofs::Chain::items), unfolding(crate::specs::Combined::unless_meridiem))]
 fn unless_meridiem(s: &[u8], at: usize, time: Time) -> ReadTime
     ensures { time_answer result ≡ attempt (unless_meridiem time) (lowered s.now) at }
 {
@@ -89,6 +94,7 @@ fn starts_with_meridiem(s: &[u8], at: usize) -> ReadPlace
     meridiem_word(s, primitive::multispace0(s, at))
 }
 
+#[tactic(auto, using(crate::proofs::Chain::items), unfolding(crate::specs::Combined::meridiem_word, primitive::specs::Text::bytes))]
 fn meridiem_word(s: &[u8], at: usize) -> ReadPlace
     ensures { place_answer result ≡ meridiem_word (lowered s.now) at }
 {

@@ -22,6 +22,7 @@ pub fn first_line_end(bytes: &[u8]) -> usize
 }
 
 // Where the line that begins at `from` ends: at a byte 10, or with the bytes. Goes by blocks of 16 bytes to the one that ends it.
+#[tactic(auto, using(crate::proofs::Splitting::outside))]
 pub fn line_end(bytes: &[u8], from: usize) -> usize
     ensures { (result ≡ from + line_length (drop from bytes.now)) × (from ≤ result) × (result ≤ from + (length bytes.now - from)) }
 {
@@ -55,6 +56,7 @@ fn ends_within(bytes: &[u8], at: usize) -> bool
 }
 
 // Where the line that begins at `from` ends, sought byte by byte.
+#[tactic(auto, using(crate::proofs::Splitting::sought_here, crate::proofs::Splitting::sought_more, crate::proofs::Splitting::sought_none))]
 fn line_end_near(bytes: &[u8], from: usize) -> usize
     requires { from ≤ length bytes.now }
     ensures { (result ≡ from + line_length (drop from bytes.now)) × (from ≤ result) × (result ≤ length bytes.now) }

@@ -10,6 +10,7 @@ use dates::date::ReadDate;
 use dates::year::ReadDigits;
 use primitive::{ReadPlace, ReadU8};
 
+#[tactic(auto, using(dates::proofs::Chain::dates), unfolding(dates::specs::Date::literal))]
 pub fn literal(s: &[u8], at: usize) -> ReadDate
     ensures { date_answer result ≡ literal (lowered s.now) at }
 {
@@ -23,6 +24,7 @@ pub fn literal(s: &[u8], at: usize) -> ReadDate
 }
 
 // `14 November 2022`, `14 Nov 2022`, `14nov2022`, `14-nov-2022`, `14-nov2022`, `14nov-2022`, `14 Nov`.
+#[tactic(auto, using(dates::proofs::Chain::dates), unfolding(dates::specs::Date::literal1))]
 fn literal1(s: &[u8], at: usize) -> ReadDate
     ensures { date_answer result ≡ literal1 (lowered s.now) at }
 {
@@ -36,6 +38,7 @@ fn literal1(s: &[u8], at: usize) -> ReadDate
 }
 
 // `November 14, 2022`, `Nov 14, 2022`, `Nov 14 2022`, `Nov 14`.
+#[tactic(auto, using(dates::proofs::Chain::dates), unfolding(dates::specs::Date::literal2))]
 fn literal2(s: &[u8], at: usize) -> ReadDate
     ensures { date_answer result ≡ literal2 (lowered s.now) at }
 {
@@ -49,6 +52,7 @@ fn literal2(s: &[u8], at: usize) -> ReadDate
 }
 
 // `November-14-2022` and `Nov-14-2022`. Unlike in `literal2` the year is always there.
+#[tactic(auto, using(dates::proofs::Chain::dates), unfolding(dates::specs::Date::literal3))]
 fn literal3(s: &[u8], at: usize) -> ReadDate
     ensures { date_answer result ≡ literal3 (lowered s.now) at }
 {

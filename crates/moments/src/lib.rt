@@ -10,6 +10,9 @@ ghost use Rattle.extended.specs.Extended.{made_of, seconds_of, count_of, test, m
 use extended::{DateParts, DayCount, ExtendedDateTime, Made, TimeParts, UnixSeconds};
 use integers::Checked;
 
+// A sum of nanoseconds is no more.
+const MOST_NANOSECONDS: u64 = 4294967295;
+
 pub fn from_unix_seconds(unix_seconds: i64, nanosecond: u32, offset_seconds: i32) -> Made
     ensures { made_of result ≡ from_unix_seconds unix_seconds nanosecond offset_seconds }
 {
@@ -53,7 +56,7 @@ pub fn checked_add_seconds(dt: ExtendedDateTime, delta_seconds: i64, delta_nanos
         return Made::Refused(18);
     };
     let nanosecond = dt.nanosecond as u64 + delta_nanoseconds as u64;
-    if nanosecond > 4294967295 {
+    if nanosecond > MOST_NANOSECONDS {
         return Made::Refused(18);
     }
     carry(unix, nanosecond as u32, dt.offset_seconds)

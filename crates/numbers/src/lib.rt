@@ -42,6 +42,7 @@ fn digit_value(b: u8) -> u64
 }
 
 // A number of at most `max`, for a limit that leaves room for one digit more.
+#[tactic(auto, using(primitive::proofs::Scans::scans))]
 pub(crate) fn dec_uint(s: &[u8], at: usize, max: u64) -> ReadU64
     requires { max < 2 ^ 60 }
     ensures { u64_answer result ≡ dec_uint max (lowered s.now) at }
@@ -75,6 +76,7 @@ fn number_of(at: usize, end: usize, n: u64) -> ReadU64
 }
 
 // A number of at most `max`, for any limit: the digits are gone through twice.
+#[tactic(auto, using(primitive::proofs::Chain::chain), unfolding(primitive::specs::Primitive::dec_uint))]
 fn long_uint(s: &[u8], at: usize, max: u64) -> ReadU64
     ensures { u64_answer result ≡ dec_uint max (lowered s.now) at }
 {

@@ -18,6 +18,7 @@ use times::offset::{Offset, ReadOffset};
 
 // The correction that follows a time of day. A unit of time behind it changes nothing: `12:00 +3 hours` is 12:00 at +03:00, and `hours`.
 // A number with a fraction is no correction: `12:00 +1.5 seconds`.
+#[tactic(auto, using(times::proofs::Offsets::offsets), unfolding(times::specs::Offset::time_zone_correction))]
 pub fn time_zone_correction(s: &[u8], at: usize) -> ReadOffset
     ensures { offset_answer result ≡ time_zone_correction (lowered s.now) at }
 {
@@ -39,6 +40,7 @@ fn unless_fraction(s: &[u8], at: usize, r: ReadOffset) -> ReadOffset
 }
 
 // A number with a sign and a fraction.
+#[tactic(auto, using(times::proofs::Offsets::offsets), unfolding(times::specs::Offset::signed_fraction))]
 fn signed_fraction(s: &[u8], at: usize) -> ReadU32
     ensures { u32_answer result ≡ signed_fraction (lowered s.now) at }
 {
@@ -57,6 +59,7 @@ fn signed_fraction(s: &[u8], at: usize) -> ReadU32
 
 // An offset, unless a relative item stands there: `+8 years` is no offset. The relative item is looked for only where there is an
 // offset, or one out of range.
+#[tactic(auto, using(times::proofs::Offsets::offsets), unfolding(times::specs::Offset::timezone_offset))]
 pub fn timezone_offset(s: &[u8], start: usize) -> ReadOffset
     ensures { offset_answer result ≡ timezone_offset (lowered s.now) start }
 {
@@ -77,6 +80,7 @@ fn unless_relative(s: &[u8], at: usize, r: ReadOffset) -> ReadOffset
     r
 }
 
+#[tactic(auto, using(times::proofs::Offsets::offsets), unfolding(times::specs::Offset::any_offset))]
 fn any_offset(s: &[u8], at: usize) -> ReadOffset
     ensures { offset_answer result ≡ any_offset (lowered s.now) at }
 {
@@ -88,6 +92,7 @@ fn any_offset(s: &[u8], at: usize) -> ReadOffset
 }
 
 // Hours and minutes with a colon between them, as `+08:00`, `+8:00`, `+8:0`.
+#[tactic(auto, using(times::proofs::Offsets::offsets), unfolding(times::specs::Offset::timezone_offset_colon))]
 fn timezone_offset_colon(s: &[u8], at: usize) -> ReadOffset
     ensures { offset_answer result ≡ timezone_offset_colon (lowered s.now) at }
 {
@@ -108,6 +113,7 @@ fn timezone_offset_colon(s: &[u8], at: usize) -> ReadOffset
 
 // Digits without a colon, as `+0800`, `+800`, `+08`, `+8`. GNU quirk: zeros in front of the last four digits are lost, so that
 // `+0000530` is `+0530`; but `+00005` is 5 minutes, where `+5` is 5 hours.
+#[tactic(auto, using(times::proofs::Offsets::offsets), unfolding(times::specs::Offset::timezone_offset_colonless))]
 fn timezone_offset_colonless(s: &[u8], at: usize) -> ReadOffset
     ensures { offset_answer result ≡ timezone_offset_colonless (lowered s.now) at }
 {
@@ -125,6 +131,7 @@ fn timezone_offset_colonless(s: &[u8], at: usize) -> ReadOffset
 }
 
 // One or two digits are hours; of more, the last two are minutes.
+#[tactic(auto, using(times::proofs::Offsets::offsets))]
 fn digits_offset(negative: bool, digits: usize, n: u64, next: usize) -> ReadOffset
     ensures { offset_answer result ≡ digits_offset negative digits n [] next }
 {

@@ -1,7 +1,7 @@
 -- Ordinal numbers, in words or in digits, as in items/ordinal.rs.
 use Rattle.std.specs.Prelude.{ℕ, List, [], ◌∷◌, Bool, true, false, ℤ, pos, neg_ℤ}
 use Prim.Native.String.{String}
-use Rattle.primitive.specs.Answer.{Answer, Reader, matched, none, ◌>>=◌, ◌>>◌, ◌<|>◌, pure, optional}
+use Rattle.primitive.specs.Answer.{Answer, Reader, matched, none, ◌>>=◌, ◌<|>◌, pure, optional}
 use Rattle.primitive.specs.Primitive.{spaced, sign, dec_uint, alpha1, named}
 use Rattle.primitive.specs.declared.ReadI32.{ReadI32}
 use Rattle.primitive.specs.declared.ReadI32.TheVariants as got

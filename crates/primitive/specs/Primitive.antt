@@ -3,7 +3,7 @@
 use Rattle.std.specs.Prelude.{ℕ, zero, suc, ◌+◌, ◌-◌, ◌*◌, ◌^◌, ◌≡◌, List, [], ◌∷◌, ◌++◌, Bool, true, false, ◌&&◌, length, get_or, drop, leb, eqb}
 use Prim.Native.String.{String}
 use Rattle.std.proofs.Math.Seq.{slice}
-use Rattle.primitive.specs.Answer.{Answer, Reader, matched, none, stop, if, ◌>>=◌, ◌>>◌, ◌<|>◌, pure, value, verify}
+use Rattle.primitive.specs.Answer.{Answer, Reader, matched, none, stop, if, ◌>>=◌, ◌>>◌, ◌<|>◌, value, verify}
 use Rattle.primitive.specs.Text.{bytes, blank, digit, letter, past, some, char}
 use Rattle.primitive.specs.declared.ReadPlace.{ReadPlace}
 use Rattle.primitive.specs.declared.ReadPlace.TheVariants as place

@@ -105,6 +105,7 @@ fn is_alpha(b: u8) -> bool
 }
 
 // The end of the blanks at a place.
+#[tactic(auto, using(crate::proofs::Runs::runs))]
 pub fn multispace0(s: &[u8], at: usize) -> usize
     ensures { result ≡ past blank (lowered s.now) at }
 {
@@ -120,6 +121,7 @@ pub fn multispace0(s: &[u8], at: usize) -> usize
 }
 
 // One blank or more.
+#[tactic(auto, using(crate::proofs::Runs::runs), unfolding(crate::specs::Primitive::multispace1))]
 pub fn multispace1(s: &[u8], at: usize) -> ReadPlace
     ensures { slice_answer (lowered s.now) at result ≡ multispace1 (lowered s.now) at }
 {
@@ -132,6 +134,7 @@ pub fn multispace1(s: &[u8], at: usize) -> ReadPlace
 }
 
 // One digit or more; the answer is where they end.
+#[tactic(auto, using(crate::proofs::Runs::runs), unfolding(crate::specs::Primitive::dec_uint_str))]
 pub fn dec_uint_str(s: &[u8], at: usize) -> ReadPlace
     ensures { slice_answer (lowered s.now) at result ≡ dec_uint_str (lowered s.now) at }
 {
@@ -144,6 +147,7 @@ pub fn dec_uint_str(s: &[u8], at: usize) -> ReadPlace
 }
 
 // The end of the digits at a place.
+#[tactic(auto, using(crate::proofs::Runs::runs))]
 pub fn digits(s: &[u8], at: usize) -> usize
     ensures { result ≡ past digit (lowered s.now) at }
 {
@@ -159,6 +163,7 @@ pub fn digits(s: &[u8], at: usize) -> usize
 }
 
 // One byte. A capital letter is never found, as the text is seen in lower case.
+#[tactic(auto, using(crate::proofs::Tags::tags))]
 pub fn byte(s: &[u8], at: usize, b: u8) -> ReadPlace
     ensures { place_answer result ≡ byte b (lowered s.now) at }
 {
@@ -171,6 +176,7 @@ pub fn byte(s: &[u8], at: usize, b: u8) -> ReadPlace
 }
 
 // Whether a byte is b in lower case. One below 65, the letter A, is its own.
+#[tactic(auto, using(crate::proofs::Tags::tags))]
 fn lowers_to(c: u8, b: u8) -> bool
     ensures { result ≡ eqb (lower c) b }
 {
@@ -181,6 +187,7 @@ fn lowers_to(c: u8, b: u8) -> bool
 }
 
 // A plus or minus.
+#[tactic(auto, using(crate::proofs::Chain::chain), unfolding(crate::specs::Primitive::sign))]
 pub fn sign(s: &[u8], at: usize) -> ReadSign
     ensures { sign_answer result ≡ sign (lowered s.now) at }
 {
@@ -214,6 +221,7 @@ pub fn tag(s: &[u8], at: usize, w: &[u8]) -> ReadPlace
 }
 
 // A word, one letter or more; the answer is where it ends.
+#[tactic(auto, using(crate::proofs::Runs::runs), unfolding(crate::specs::Primitive::alpha1))]
 pub fn alpha1(s: &[u8], at: usize) -> ReadPlace
     ensures { slice_answer (lowered s.now) at result ≡ alpha1 (lowered s.now) at }
 {
@@ -226,6 +234,7 @@ pub fn alpha1(s: &[u8], at: usize) -> ReadPlace
 }
 
 // The end of the letters at a place.
+#[tactic(auto, using(crate::proofs::Runs::runs))]
 fn letters(s: &[u8], at: usize) -> usize
     ensures { result ≡ past letter (lowered s.now) at }
 {

@@ -31,6 +31,7 @@ pub enum ReadRelative {
 }
 
 // Seconds in digits, with a sign or without one.
+#[tactic(auto, using(crate::proofs::Chain::relatives), unfolding(crate::specs::Relative::seconds))]
 pub fn seconds(s: &[u8], at: usize) -> ReadRelative
     ensures { relative_answer result ≡ seconds (lowered s.now) at }
 {
@@ -41,6 +42,7 @@ pub fn seconds(s: &[u8], at: usize) -> ReadRelative
 }
 
 // The same with the sign that was read before it. Seconds that no i64 holds are no match.
+#[tactic(auto, using(crate::proofs::Units::turned), unfolding(crate::specs::Relative::signed_seconds))]
 fn signed_seconds(s: &[u8], at: usize, negative: bool) -> ReadRelative
     ensures { relative_answer result ≡ signed_seconds negative (lowered s.now) at }
 {
@@ -107,6 +109,7 @@ pub struct Towards {
 }
 
 // `ago` or `hence`, behind space; forward where there is neither. What stands behind the word is not asked.
+#[tactic(auto, using(crate::proofs::Chain::relatives), unfolding(crate::specs::Relative::direction, primitive::specs::Text::bytes))]
 pub fn direction(s: &[u8], at: usize) -> Towards
     ensures { matched result.ago result.next ≡ direction (lowered s.now) at }
 {

@@ -16,6 +16,7 @@ ghost use Rattle.relative.specs.Relative.{parse, displacement, displaced, in_uni
 use primitive::{ReadI32, ReadPlace};
 use relative::{ReadRelative, Relative};
 
+#[tactic(auto, using(relative::proofs::Chain::relatives), unfolding(relative::specs::Relative::parse))]
 pub fn parse(s: &[u8], at: usize) -> ReadRelative
     ensures { relative_answer result ≡ parse (lowered s.now) at }
 {

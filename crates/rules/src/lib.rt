@@ -86,6 +86,7 @@ impl DateTimeBuilder {
         }
     }
 
+    #[tactic(auto, using(crate::proofs::Cases::cases), unfolding(crate::specs::Rules::set_date))]
     pub fn set_date(self, date: Date) -> Set
         ensures { set_of result ≡ set_date self date }
     {
@@ -105,6 +106,7 @@ impl DateTimeBuilder {
         })
     }
 
+    #[tactic(auto, using(crate::proofs::Cases::cases), unfolding(crate::specs::Rules::set_time))]
     pub fn set_time(self, time: Time) -> Set
         ensures { set_of result ≡ set_time self time }
     {
@@ -128,6 +130,7 @@ impl DateTimeBuilder {
         })
     }
 
+    #[tactic(auto, using(crate::proofs::Cases::cases), unfolding(crate::specs::Rules::set_weekday))]
     pub fn set_weekday(self, weekday: Weekday) -> Set
         ensures { set_of result ≡ set_weekday self weekday }
     {
@@ -148,6 +151,7 @@ impl DateTimeBuilder {
     }
 
     // The Rust's `set_offset` and `set_local_zone`: both take the one place of a zone.
+    #[tactic(auto, using(crate::proofs::Cases::cases), unfolding(crate::specs::Rules::set_zone))]
     pub fn set_zone(self, zone: GivenZone) -> Set
         ensures { set_of result ≡ set_zone self zone }
     {
@@ -166,6 +170,7 @@ impl DateTimeBuilder {
         })
     }
 
+    #[tactic(auto, using(crate::proofs::Cases::cases), unfolding(crate::specs::Rules::set_date_time))]
     pub fn set_date_time(self, both: DateTime) -> Set
         ensures { set_of result ≡ set_date_time self both }
     {
@@ -178,6 +183,7 @@ impl DateTimeBuilder {
     }
 
     // Whether the clock starts at midnight: a relative item alone keeps the clock of the base. `bare`: there is no relative item.
+    #[tactic(auto, using(crate::proofs::Cases::cases), unfolding(crate::specs::Rules::need_midnight))]
     pub fn need_midnight(self, bare: bool) -> bool
         ensures { result ≡ need_midnight self bare }
     {

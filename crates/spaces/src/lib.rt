@@ -10,6 +10,7 @@ ghost use Rattle.primitive.specs.Primitive.{comment, ignored_hyphen_or_plus, ign
 use primitive::{ReadPlace, ReadSign};
 
 // The end of the space at a place.
+#[tactic(auto, using(primitive::proofs::Spaces::spaces))]
 pub fn space(s: &[u8], at: usize) -> usize
     ensures { result ≡ space (lowered s.now) at }
 {
@@ -55,6 +56,7 @@ fn signed_digit(s: &[u8], at: usize) -> bool
 }
 
 // The same where there may be space. No byte above 45, the hyphen, begins any.
+#[tactic(auto, using(primitive::proofs::Spaces::spaces))]
 fn skip_space(s: &[u8], at: usize) -> usize
     ensures { result ≡ space (lowered s.now) at }
 {
@@ -79,6 +81,7 @@ fn ignored(s: &[u8], at: usize) -> ReadPlace
 }
 
 // A hyphen or plus is ignored when no digit follows it, behind blanks too. In `- (comment) 12 weeks` a comment follows it.
+#[tactic(auto, using(primitive::proofs::Spaces::spaces), unfolding(primitive::specs::Primitive::ignored_hyphen_or_plus))]
 fn ignored_hyphen_or_plus(s: &[u8], at: usize) -> ReadPlace
     ensures { place_answer result ≡ ignored_hyphen_or_plus (lowered s.now) at }
 {
@@ -127,6 +130,7 @@ pub fn spaced_byte(s: &[u8], at: usize, b: u8) -> ReadPlace
 }
 
 // A hyphen behind space. One with a digit behind it, which is not ignored, is found at once.
+#[tactic(auto, using(primitive::proofs::Spaces::spaces))]
 pub fn spaced_hyphen(s: &[u8], at: usize) -> ReadPlace
     ensures { place_answer result ≡ spaced (byte 45) (lowered s.now) at }
 {
@@ -143,6 +147,7 @@ pub fn spaced_hyphen(s: &[u8], at: usize) -> ReadPlace
     primitive::byte(s, skip_space(s, at), 45)
 }
 
+#[tactic(auto, unfolding(primitive::specs::Primitive::colon))]
 pub fn colon(s: &[u8], at: usize) -> ReadPlace
     ensures { place_answer result ≡ colon (lowered s.now) at }
 {

@@ -19,6 +19,7 @@ use times::time::{
     TimeOffset,
 };
 
+#[tactic(auto, using(times::proofs::Times::times), unfolding(times::specs::Time::parse))]
 pub fn parse(s: &[u8], at: usize) -> ReadTime
     ensures { time_answer result ≡ parse (lowered s.now) at }
 {
@@ -30,6 +31,7 @@ pub fn parse(s: &[u8], at: usize) -> ReadTime
 }
 
 // A time in 24 hours: an hour, and minutes behind a colon or else an offset.
+#[tactic(auto, using(times::proofs::Hours::hours))]
 pub fn iso(s: &[u8], at: usize) -> ReadTime
     ensures { time_answer result ≡ iso (lowered s.now) at }
 {
@@ -86,6 +88,7 @@ fn clock(s: &[u8], at: usize, hour: u8) -> ReadTime
     )
 }
 
+#[tactic(auto, using(times::proofs::Times::times), unfolding(times::specs::Time::optional_correction))]
 fn optional_correction(s: &[u8], at: usize) -> ReadTimeOffset
     ensures { time_offset_answer result ≡ optional_correction (lowered s.now) at }
 {
@@ -97,6 +100,7 @@ fn optional_correction(s: &[u8], at: usize) -> ReadTimeOffset
 }
 
 // A time that ends with am or pm.
+#[tactic(auto, using(times::proofs::Times::times), unfolding(times::specs::Time::am_pm_time))]
 fn am_pm_time(s: &[u8], at: usize) -> ReadTime
     ensures { time_answer result ≡ am_pm_time (lowered s.now) at }
 {
@@ -150,6 +154,7 @@ fn meridiem(s: &[u8], at: usize) -> ReadMeridiem
     ReadMeridiem::NoMatch
 }
 
+#[tactic(auto, using(times::proofs::Times::times), unfolding(times::specs::Time::optional_minute))]
 fn optional_minute(s: &[u8], at: usize) -> FoundMinute
     ensures { matched result.minute result.next ≡ optional_minute (lowered s.now) at }
 {
@@ -164,6 +169,7 @@ fn optional_minute(s: &[u8], at: usize) -> FoundMinute
     }
 }
 
+#[tactic(auto, using(times::proofs::Times::times), unfolding(times::specs::Time::optional_second))]
 fn optional_second(s: &[u8], at: usize) -> FoundSecond
     ensures { matched result.value result.next ≡ optional_second (lowered s.now) at }
 {
@@ -179,6 +185,7 @@ fn optional_second(s: &[u8], at: usize) -> FoundSecond
 }
 
 // A number of hours from 0 to 23.
+#[tactic(auto, using(times::proofs::Times::times), unfolding(times::specs::Time::hour24))]
 fn hour24(s: &[u8], at: usize) -> ReadU8
     ensures { u8_answer result ≡ hour24 (lowered s.now) at }
 {
@@ -186,6 +193,7 @@ fn hour24(s: &[u8], at: usize) -> ReadU8
 }
 
 // A number of hours from 0 to 12.
+#[tactic(auto, using(times::proofs::Times::times), unfolding(times::specs::Time::hour12))]
 fn hour12(s: &[u8], at: usize) -> ReadU8
     ensures { u8_answer result ≡ hour12 (lowered s.now) at }
 {
@@ -193,6 +201,7 @@ fn hour12(s: &[u8], at: usize) -> ReadU8
 }
 
 // A number of minutes from 0 to 59.
+#[tactic(auto, using(times::proofs::Times::times), unfolding(times::specs::Time::minute))]
 fn minute(s: &[u8], at: usize) -> ReadU8
     ensures { u8_answer result ≡ minute (lowered s.now) at }
 {
@@ -200,6 +209,7 @@ fn minute(s: &[u8], at: usize) -> ReadU8
 }
 
 // A number below a limit, behind space.
+#[tactic(auto, using(times::proofs::Times::times), unfolding(times::specs::Time::below))]
 fn below(s: &[u8], at: usize, limit: u8) -> ReadU8
     ensures { u8_answer result ≡ below limit (lowered s.now) at }
 {
@@ -214,6 +224,7 @@ fn below(s: &[u8], at: usize, limit: u8) -> ReadU8
 }
 
 // A number of seconds from 0 to 59, with a fraction or without one.
+#[tactic(auto, using(times::proofs::Times::times), unfolding(times::specs::Time::second))]
 fn second(s: &[u8], at: usize) -> ReadSecNsec
     ensures { sec_nsec_answer result ≡ second (lowered s.now) at }
 {

@@ -28,6 +28,7 @@ pub enum ReadOffset {
 
 impl Offset {
     // Hours above 23 become 23, unless they are 24 and no minutes, and the clock moves by the rest.
+    #[tactic(auto, using(crate::proofs::Signed::days))]
     pub fn normalize(self) -> Normalized
         ensures { result ≡ normalized self }
     {
@@ -85,6 +86,7 @@ impl Offset {
 }
 
 // Whether hours and minutes are those of an offset that is read: the Rust's `try_from`.
+#[tactic(auto, using(crate::proofs::Offsets::offsets))]
 pub fn in_range(hours: u64, minutes: u64) -> bool
     ensures { result ≡ in_range hours minutes }
 {

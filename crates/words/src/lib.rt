@@ -11,6 +11,7 @@ ghost use Rattle.primitive.specs.Primitive.{words, index};
 
 // How many words of a table stand in front of the word from `at` up to `end`; the number of the table's words where it is none of
 // them. The table is in lower case, with a blank behind each word.
+#[tactic(auto, using(primitive::proofs::Tables::scans))]
 pub fn find_word(s: &[u8], at: usize, end: usize, table: &[u8]) -> usize
     ensures { result ≡ index (slice at end (lowered s.now)) (words table.now) }
 {

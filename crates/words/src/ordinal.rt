@@ -7,6 +7,7 @@ ghost use Rattle.primitive.specs.Ordinal.{text_ordinal, number_ordinal, ordinal,
 use primitive::{ReadI32, ReadPlace, ReadSign};
 
 // A word or, where there is none that is an ordinal, a number.
+#[tactic(auto, using(primitive::proofs::Chain::chain), unfolding(primitive::specs::Ordinal::ordinal))]
 pub fn ordinal(s: &[u8], at: usize) -> ReadI32
     ensures { i32_answer result ≡ ordinal (lowered s.now) at }
 {

@@ -29,16 +29,16 @@ returns-in_default c =
     let ok : test c.args.dt ≡ accepted tt = passed (record_proper c.args.dt) c.refusal-refusal.ensures c.if-refusal-gt0.false in
     let moment_fits : SFits w64 c.moment.result = search rules in
     let sum_is : c.checked_add.result ≡ sum (moment c.args.dt) c.args.delta_seconds =
-        rw (to_z-of_z moment_fits, to_z-of_z c.ranges.delta_seconds, c.moment.ensures) at c.checked_add.ensures in
+    rw (to_z-of_z moment_fits, to_z-of_z c.ranges.delta_seconds, c.moment.ensures) at c.checked_add.ensures in
     simp (ok, sym sum_is, c.in_default.is)
 
-pub returns-then-nanosecond-gt4294967295 : goal.returns-then-nanosecond-gt4294967295
+pub returns-then-nanosecond-gt-MOST_NANOSECONDS : goal.returns-then-nanosecond-gt-MOST_NANOSECONDS
 unfolding add_seconds
-returns-then-nanosecond-gt4294967295 c =
+returns-then-nanosecond-gt-MOST_NANOSECONDS c =
     let ok : test c.args.dt ≡ accepted tt = passed (record_proper c.args.dt) c.refusal-refusal.ensures c.if-refusal-gt0.false in
     let moment_fits : SFits w64 c.moment.result = search rules in
     let sum_is : c.checked_add.result ≡ sum (moment c.args.dt) c.args.delta_seconds =
-        rw (to_z-of_z moment_fits, to_z-of_z c.ranges.delta_seconds, c.moment.ensures) at c.checked_add.ensures in
+    rw (to_z-of_z moment_fits, to_z-of_z c.ranges.delta_seconds, c.moment.ensures) at c.checked_add.ensures in
     let s = c.args in
     simp (ok, sym sum_is, c.in-Fits.is, le-ltb (s.dt.nanosecond + s.delta_nanoseconds) 4294967296 (omega arith))
 
@@ -48,7 +48,7 @@ returns c =
     let ok : test c.args.dt ≡ accepted tt = passed (record_proper c.args.dt) c.refusal-refusal.ensures c.if-refusal-gt0.false in
     let moment_fits : SFits w64 c.moment.result = search rules in
     let sum_is : c.checked_add.result ≡ sum (moment c.args.dt) c.args.delta_seconds =
-        rw (to_z-of_z moment_fits, to_z-of_z c.ranges.delta_seconds, c.moment.ensures) at c.checked_add.ensures in
+    rw (to_z-of_z moment_fits, to_z-of_z c.ranges.delta_seconds, c.moment.ensures) at c.checked_add.ensures in
     let unix_fits : SFits w64 c.in-Fits.unix = search rules in
     let offset_fits : SFits w32 c.args.dt.offset_seconds = search rules in
     let s = c.args in

@@ -28,14 +28,14 @@ widen-year-requires c =
     parsed_is 4294967295 (slice a.from a.to (lowered a.s.now)) _ _ _ _ (sym (ap u64_answer c.in-Match.is) ∙ c.parse_uint.ensures) in
     let p = parsed in omega arith
 
-pub returns-then-year-gt2147485547 : goal.returns-then-year-gt2147485547
+pub returns-then-year-gt-LAST_YEAR : goal.returns-then-year-gt-LAST_YEAR
 unfolding year_from_str
-returns-then-year-gt2147485547 c =
+returns-then-year-gt-LAST_YEAR c =
     let parsed : let a = c.args in let w = slice a.from a.to (lowered a.s.now) in (c.in-Match.year ≡ decimal w) × (decimal w ≤ 4294967295) =
     let a = c.args in
     parsed_is 4294967295 (slice a.from a.to (lowered a.s.now)) _ _ _ _ (sym (ap u64_answer c.in-Match.is) ∙ c.parse_uint.ensures) in
     let widened_is : let a = c.args in let w = slice a.from a.to (lowered a.s.now) in c.widen-year.result ≡ widened_by (length w) (decimal w) = rw (c.digit_count.ensures, parsed.0) at c.widen-year.ensures in
-    simp (rw widened_is at (lt-leb _ 2147485547 c.if-year-gt2147485547.true))
+    simp (rw widened_is at (lt-leb _ 2147485547 c.if-year-gt-LAST_YEAR.true))
 
 pub returns : goal.returns
 unfolding year_from_str
@@ -44,4 +44,4 @@ returns c =
     let a = c.args in
     parsed_is 4294967295 (slice a.from a.to (lowered a.s.now)) _ _ _ _ (sym (ap u64_answer c.in-Match.is) ∙ c.parse_uint.ensures) in
     let widened_is : let a = c.args in let w = slice a.from a.to (lowered a.s.now) in c.widen-year.result ≡ widened_by (length w) (decimal w) = rw (c.digit_count.ensures, parsed.0) at c.widen-year.ensures in
-    simp (rw widened_is at (le-leb _ 2147485547 c.if-year-gt2147485547.false)) (ap (λ (y : ℕ). matched y c.args.to) widened_is)
+    simp (rw widened_is at (le-leb _ 2147485547 c.if-year-gt-LAST_YEAR.false)) (ap (λ (y : ℕ). matched y c.args.to) widened_is)

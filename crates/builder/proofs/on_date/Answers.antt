@@ -1,9 +1,0 @@
--- `on_date` is its definition. Assumes nothing.
-use Rattle.builder.proofs.Cases.{cases}
-use Rattle.builder.proofs.on_date.Goals as goal
-
-pub returns-in_default : goal.returns-in_default
-returns-in_default c = search cases
-
-pub returns : goal.returns
-returns c = search cases
