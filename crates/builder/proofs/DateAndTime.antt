@@ -6,7 +6,7 @@ use mathlib.Core.Path.{◌≡◌, refl}
 use mathlib.Core.Bool.{Bool, true, false}
 use mathlib.Core.List.{[], ◌∷◌}
 use lib.IntN.{ℤ}
-use Rattle.extended.specs.Outcome.{Outcome, accepted, refused, ◌>>=◌, ◌>>◌}
+use Rattle.extended.specs.Outcome.{Outcome, accepted, refused, ◌>>=◌}
 use Rattle.extended.specs.Extended.{make, date, time, date_of, test, accept, with_date, with_time, with_offset}
 use Rattle.extended.specs.declared.ExtendedDateTime.{ExtendedDateTime}
 use Rattle.extended.proofs.Records.{facts, tested}

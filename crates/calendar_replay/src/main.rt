@@ -4,6 +4,8 @@
 //
 // A line is a function's name and its arguments in decimal, with one space before each. A line with
 // a number beyond i64 or without a known name is answered by 99, which is no call's answer.
+#![tactic(auto)]
+
 mod calls;
 mod numbers;
 mod replies;

@@ -13,6 +13,11 @@ use dates::date::{ReadDate, ReadYear};
 use dates::year::ReadDigits;
 use primitive::{ReadPlace, ReadU8, ReadU64};
 
+// A date without marks has more than four digits; so many make a number the year.
+const FEWEST_DIGITS: usize = 5;
+
+const YEAR_DIGITS: usize = 4;
+
 // `2022-11-14`; the combined item begins with it too.
 #[tactic(auto, using(dates::proofs::Chain::dates), unfolding(dates::specs::Date::iso1))]
 pub fn iso1(s: &[u8], at: usize) -> ReadDate
@@ -43,7 +48,7 @@ pub fn iso2(s: &[u8], at: usize) -> ReadDate
     let ReadPlace::Match(end) = primitive::dec_uint_str(s, at) else {
         return ReadDate::NoMatch;
     };
-    if end - at < 5 {
+    if end - at < FEWEST_DIGITS {
         return ReadDate::NoMatch;
     }
     let ReadU8::Match(month, _) = u8_from_str(s, end - 4, end - 2) else {
@@ -142,7 +147,7 @@ fn us_date(s: &[u8], at: usize, from: usize, to: usize, number: u8, last: ReadYe
 {
     match last {
         ReadYear::From(start, end, next) => {
-            if dates::year::digit_count(s, from, to) >= 4 {
+            if dates::year::digit_count(s, from, to) >= YEAR_DIGITS {
                 let ReadU8::Match(day, _) = u8_from_str(s, start, end) else {
                     return ReadDate::NoMatch;
                 };

@@ -78,6 +78,7 @@ fn blank_or_end(s: &[u8], at: usize) -> ReadPlace
     ReadPlace::Match(next)
 }
 
+#[tactic(auto, using(primitive::proofs::Lowered::length_lowered), unfolding(dates::specs::Date::end_of_text))]
 fn end_of_text(s: &[u8], at: usize) -> ReadPlace
     ensures { place_answer result ≡ end_of_text (lowered s.now) at }
 {

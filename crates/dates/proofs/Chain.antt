@@ -16,7 +16,6 @@ use Rattle.dates.specs.declared.date.Date.{Date}
 use Rattle.dates.specs.declared.date.ReadDate.{ReadDate}
 use Rattle.dates.specs.declared.date.ReadDate.TheVariants as date
 use Rattle.dates.specs.declared.date.ReadYear.{ReadYear}
-use Rattle.dates.specs.declared.date.ReadYear.TheVariants as year
 
 -- Where digits were read.
 module _ (p : Answer (List ℕ)) (text : List ℕ) (r : ReadDigits) (e : digits_answer text r ≡ p) {B : Type 0} (f : List ℕ → ℕ → Answer B) where

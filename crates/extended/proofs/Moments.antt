@@ -1,5 +1,5 @@
 -- `from_unix_seconds` gives the one accepted record of a moment, an offset and a nanosecond. Assumes nothing.
-use Prim.Native.Nat.{ℕ, ◌+◌, ◌-◌, ◌*◌, ◌/◌, ◌%◌, ◌≤◌}
+use Prim.Native.Nat.{ℕ, ◌+◌, ◌*◌, ◌/◌, ◌%◌, ◌≤◌}
 use mathlib.Core.Path.{◌≡◌, refl, sym, ap, ap₂, ◌∙◌, subst}
 use mathlib.Core.Bool.{Bool, true, false}
 use native.Mathlib.Omega.{arith}
@@ -11,7 +11,7 @@ use borrow.Author.Tests.{le-leb, leb-true}
 use Rattle.integers.specs.Integers.{sum, natural_of, in_i64, fits_if}
 use Rattle.integers.proofs.Differences.{diff_pos, diff_sub}
 use Rattle.integers.proofs.Range.{diff_fits, fits_in}
-use Rattle.extended.specs.Outcome.{Outcome, accepted, check, ◌>>=◌, ◌>>◌}
+use Rattle.extended.specs.Outcome.{Outcome, accepted, check, ◌>>=◌}
 use Rattle.calendar.specs.Calendar.{day_number, civil, ymd}
 use Rattle.extended.specs.Extended.{checked, from_zero, make, date, time, test_offset, test_year, clock_seconds, moment, clock_record, from_clock, from_unix_seconds}
 use Rattle.calendar.specs.declared.Civil.{Civil}

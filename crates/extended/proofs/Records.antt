@@ -1,5 +1,5 @@
 -- What it means that `new` accepts a record. Assumes nothing.
-use Prim.Native.Nat.{ℕ, ◌-◌, ◌<◌, ◌≤◌}
+use Prim.Native.Nat.{ℕ, ◌<◌, ◌≤◌}
 use mathlib.Core.Path.{◌≡◌}
 use mathlib.Core.Bool.{Bool, true, ◌&&◌}
 use native.Mathlib.Omega.{arith}
@@ -9,7 +9,7 @@ use lib.Signed.{le_z, mag}
 use borrow.Author.Tests.{leb-true, le-leb}
 use Rattle.extended.specs.Outcome.{accepted, check, ◌>>◌}
 use Rattle.calendar.specs.Calendar.{month_days, Valid, ymd}
-use Rattle.extended.specs.Extended.{date, date_of, time_of, test_date, test_time, test_offset, test, test_year, clock_seconds}
+use Rattle.extended.specs.Extended.{date_of, time_of, test_date, test_time, test_offset, test, test_year, clock_seconds}
 use Rattle.extended.specs.declared.DateParts.{DateParts}
 use Rattle.extended.specs.declared.TimeParts.{TimeParts}
 use Rattle.extended.specs.declared.ExtendedDateTime.{ExtendedDateTime}

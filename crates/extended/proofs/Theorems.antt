@@ -1,6 +1,6 @@
 -- What is proved of the calendar beside the contracts: read this file first. `test r ≡ accepted tt` says that `new` refuses none
 -- of the numbers of r. Assumes nothing.
-use Prim.Native.Nat.{ℕ, ◌+◌, ◌*◌, ◌/◌, ◌%◌, ◌<◌, ◌≤◌}
+use Prim.Native.Nat.{ℕ, ◌+◌, ◌/◌, ◌%◌, ◌<◌, ◌≤◌}
 use mathlib.Core.Path.{◌≡◌, refl, sym, ap, ap₂, ◌∙◌}
 use mathlib.Core.Logic.{◌↔◌}
 use native.Mathlib.Omega.{arith}
@@ -8,7 +8,7 @@ use lib.IntN.{ℤ, pos, ◌+ℤ◌, ◌*ℤ◌}
 use Rattle.extended.specs.Outcome.{accepted, refused}
 use Rattle.calendar.specs.Calendar.{leap, year_days, days_before_year, days_of_months, day_number, Valid, next_day, civil, next_weekday, weekday}
 use Rattle.extended.specs.Calendar.{monday_weekday, sunday_weekday}
-use Rattle.extended.specs.Extended.{make, date, time, date_of, test, clock_seconds, moment, from_unix_seconds, add_seconds, add_units, add_days, add_hours, add_minutes}
+use Rattle.extended.specs.Extended.{make, time, date_of, test, clock_seconds, moment, from_unix_seconds, add_seconds, add_units, add_days, add_hours, add_minutes}
 use Rattle.calendar.specs.declared.Civil.{Civil}
 use Rattle.extended.specs.declared.ExtendedDateTime.{ExtendedDateTime}
 use Rattle.calendar.proofs.Counting.{weekday_closed}

@@ -14,10 +14,8 @@ use Rattle.times.specs.declared.offset.Offset.{Offset}
 use Rattle.times.specs.declared.time.Time.{Time}
 use Rattle.times.specs.declared.time.TimeOffset.{TimeOffset}
 use Rattle.times.specs.declared.time.TimeOffset.TheVariants as offset
-use Rattle.items.specs.declared.combined.DateTime.{DateTime}
 use Rattle.items.specs.declared.Day.{Day}
 use Rattle.items.specs.declared.Day.TheVariants as day
-use Rattle.items.specs.declared.Weekday.{Weekday}
 use Rattle.items.specs.declared.Pure.{Pure}
 use Rattle.items.specs.declared.Item.{Item}
 use Rattle.items.specs.declared.Item.TheVariants as item

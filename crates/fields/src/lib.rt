@@ -115,7 +115,8 @@ pub fn unsigned(n: i64) -> u64
 pub fn as_small(n: u64) -> Small
     ensures { small_of result ≡ small n }
 {
-    if n < 0x8000_0000 {
+    let is_small = n < 0x8000_0000;
+    if is_small {
         return Small::Fits(n as i32);
     }
     if n < 0xffff_ffff_8000_0000 {

@@ -16,7 +16,6 @@ use Rattle.dates.specs.declared.date.DateYear.TheVariants as year
 use Rattle.times.specs.Offset.{in_range, offset_of, timezone_offset_colon, digits_offset, timezone_offset_colonless, any_offset, signed_fraction, time_zone_correction, timezone_offset}
 use Rattle.times.specs.Time.{below, hour24, hour12, minute, second, optional_second, optional_minute, optional_correction, hour_offset, clock, iso, meridiem, am_pm_time}
 use Rattle.times.specs.Time.{parse as time-parse}
-use Rattle.times.specs.declared.time.Time.{Time}
 use Rattle.times.specs.declared.time.TimeOffset.TheVariants.{Given, NotGiven}
 use Rattle.relative.specs.Relative.{direction, rounded, second_words, second_word, signed_seconds, seconds, days, units, stripped, in_unit, displaced, displacement}
 use Rattle.relative.specs.Relative.{parse as relative-parse}

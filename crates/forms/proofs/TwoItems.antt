@@ -2,7 +2,7 @@
 -- and the moment alone as one. The numbers are any rows of digits whose values are in range. Assumes nothing.
 use native.Mathlib.Omega.{arith}
 use borrow.Author.Tests.{leb-true, lt-leb, ne_eqb}
-use Prim.Native.Nat.{ℕ, suc, ◌-◌, ◌^◌, ◌<◌}
+use Prim.Native.Nat.{ℕ, suc, ◌^◌, ◌<◌}
 use mathlib.Core.Path.{◌≡◌, refl, ap}
 use mathlib.Core.List.{List, [], ◌∷◌, ◌++◌, append_assoc}
 use mathlib.Core.Bool.{Bool, true, false}
@@ -19,7 +19,6 @@ use Rattle.times.specs.Time.{iso}
 use Rattle.times.specs.declared.time.Time.{Time}
 use Rattle.times.specs.declared.time.TimeOffset.TheVariants as zone
 use Rattle.relative.specs.Relative.{rounded}
-use Rattle.relative.specs.Relative.{parse as parse-relative}
 use Rattle.relative.specs.declared.Relative.TheVariants.{Seconds}
 use Rattle.items.specs.Combined.{starts_with_meridiem}
 use Rattle.items.specs.Items.{iso_date, parse_item, ended, parse_items}

@@ -16,7 +16,10 @@ use relative::Relative;
 use times::offset::Offset;
 use times::time::{Time, TimeOffset};
 
+const LAST_YEAR: u32 = 2147485547;
+
 // The item, if the fields are those of one in range.
+#[tactic(auto, using(fields::proofs::Cases::cases), unfolding(fields::specs::Fields::unpacked))]
 pub fn unpack(fields: Fields, used: u16) -> Found
     ensures { found_of result ≡ unpacked fields used }
 {
@@ -27,6 +30,7 @@ pub fn unpack(fields: Fields, used: u16) -> Found
 }
 
 // The item by its kind, in range or not. `used`: the digits of the pure numbers before it.
+#[tactic(auto, using(fields::proofs::Cases::cases), unfolding(fields::specs::Fields::item_of))]
 fn item_of(fields: Fields, used: u16) -> Found
     ensures { found_of result ≡ item_of fields used }
 {
@@ -45,6 +49,7 @@ fn item_of(fields: Fields, used: u16) -> Found
     later_kind(fields, used)
 }
 
+#[tactic(auto, using(fields::proofs::Cases::cases), unfolding(fields::specs::Fields::later_kind))]
 fn later_kind(fields: Fields, used: u16) -> Found
     ensures { found_of result ≡ later_kind fields used }
 {
@@ -66,6 +71,7 @@ fn later_kind(fields: Fields, used: u16) -> Found
     Found::Bad
 }
 
+#[tactic(auto, using(fields::proofs::Cases::cases), unfolding(fields::specs::Fields::year_of))]
 fn year_of(fields: Fields) -> DateYear
     ensures { result ≡ year_of fields }
 {
@@ -75,6 +81,7 @@ fn year_of(fields: Fields) -> DateYear
     DateYear::Absent
 }
 
+#[tactic(auto, using(fields::proofs::Cases::cases))]
 fn date_of(fields: Fields) -> Date
     ensures { result ≡ date_of fields }
 {
@@ -96,6 +103,7 @@ fn offset_of(fields: Fields) -> Offset
     }
 }
 
+#[tactic(auto, using(fields::proofs::Cases::cases), unfolding(fields::specs::Fields::time_offset_of))]
 fn time_offset_of(fields: Fields) -> TimeOffset
     ensures { result ≡ time_offset_of fields }
 {
@@ -105,6 +113,7 @@ fn time_offset_of(fields: Fields) -> TimeOffset
     TimeOffset::NotGiven
 }
 
+#[tactic(auto, using(fields::proofs::Cases::cases))]
 fn time_of(fields: Fields) -> Time
     ensures { result ≡ time_of fields }
 {
@@ -126,6 +135,7 @@ fn date_time_of(fields: Fields) -> DateTime
     DateTime { date, time }
 }
 
+#[tactic(auto, using(fields::proofs::Cases::cases), unfolding(fields::specs::Fields::weekday_of))]
 fn weekday_of(fields: Fields) -> Found
     ensures { found_of result ≡ weekday_of fields }
 {
@@ -138,6 +148,7 @@ fn weekday_of(fields: Fields) -> Found
     Found::Item(Item::Weekday(Weekday { offset, day }))
 }
 
+#[tactic(auto, using(fields::proofs::Cases::cases), unfolding(fields::specs::Fields::relative_of))]
 fn relative_of(fields: Fields) -> Found
     ensures { found_of result ≡ relative_of fields }
 {
@@ -153,6 +164,7 @@ fn relative_of(fields: Fields) -> Found
     unit_of(fields.which, n)
 }
 
+#[tactic(auto, using(fields::proofs::Cases::cases), unfolding(fields::specs::Fields::fitting))]
 fn fitting(fields: Fields, item: Item) -> Found
     ensures { found_of result ≡ fitting fields item }
 {
@@ -165,6 +177,7 @@ fn fitting(fields: Fields, item: Item) -> Found
     Found::Bad
 }
 
+#[tactic(auto, using(fields::proofs::Cases::cases), unfolding(fields::specs::Fields::day_of))]
 fn day_of(n: u8) -> FoundDay
     ensures { day_found result ≡ day_of n }
 {
@@ -183,6 +196,7 @@ fn day_of(n: u8) -> FoundDay
     later_day(n)
 }
 
+#[tactic(auto, using(fields::proofs::Cases::cases), unfolding(fields::specs::Fields::later_day))]
 fn later_day(n: u8) -> FoundDay
     ensures { day_found result ≡ later_day n }
 {
@@ -213,6 +227,7 @@ fn unit_of(unit: u8, n: i32) -> Found
     later_unit(unit, n)
 }
 
+#[tactic(auto, using(fields::proofs::Cases::cases), unfolding(fields::specs::Fields::later_unit))]
 fn later_unit(unit: u8, n: i32) -> Found
     ensures { found_of result ≡ later_unit unit n }
 {
@@ -225,6 +240,7 @@ fn later_unit(unit: u8, n: i32) -> Found
     Found::Bad
 }
 
+#[tactic(auto, using(fields::proofs::Cases::cases))]
 fn in_range(item: Item) -> bool
     ensures { result ≡ in_range item }
 {
@@ -246,7 +262,7 @@ fn date_in_range(date: Date) -> bool
     let year = date.year;
     match year {
         DateYear::Given(year) => {
-            if 2147485547 < year {
+            if LAST_YEAR < year {
                 return false;
             }
             date_parts::exists(year, date.month, date.day)
@@ -255,6 +271,7 @@ fn date_in_range(date: Date) -> bool
     }
 }
 
+#[tactic(auto, using(fields::proofs::Cases::cases), unfolding(fields::specs::Fields::time_in_range))]
 fn time_in_range(time: Time) -> bool
     ensures { result ≡ time_in_range time }
 {
@@ -274,6 +291,7 @@ fn time_in_range(time: Time) -> bool
     offset_in_range(offset)
 }
 
+#[tactic(auto, using(fields::proofs::Cases::cases))]
 fn offset_in_range(offset: TimeOffset) -> bool
     ensures { result ≡ offset_in_range offset }
 {
@@ -286,6 +304,7 @@ fn offset_in_range(offset: TimeOffset) -> bool
     }
 }
 
+#[tactic(auto, using(fields::proofs::Cases::cases))]
 fn both_in_range(both: DateTime) -> bool
     ensures { result ≡ in_range (item.DateTime both) }
 {
@@ -297,6 +316,7 @@ fn both_in_range(both: DateTime) -> bool
     false
 }
 
+#[tactic(auto, using(fields::proofs::Cases::cases), unfolding(fields::specs::Fields::zone_in_range))]
 fn zone_in_range(zone: Offset) -> bool
     ensures { result ≡ zone_in_range zone }
 {
@@ -306,6 +326,7 @@ fn zone_in_range(zone: Offset) -> bool
     zone.minutes <= 60
 }
 
+#[tactic(auto, using(fields::proofs::Cases::cases), unfolding(fields::specs::Fields::pure_in_range))]
 fn pure_in_range(pure: Pure) -> bool
     ensures { result ≡ pure_in_range pure }
 {

@@ -45,6 +45,7 @@ pub fn read_packet(packet: &[u8], base: ExtendedDateTime) -> Built
 }
 
 // Under 8 bytes, then the number of items, then the other fields of the header and the packet's length.
+#[tactic(auto, using(crate::proofs::Steps::steps))]
 fn header_refusal(packet: &[u8]) -> u32
     ensures { result ≡ number (header packet.now) }
 {
@@ -99,7 +100,8 @@ fn build_items(packet: &[u8], count: usize, digits: &[u8], base: ExtendedDateTim
             }
         }
     }
-    if used < digits.len() {
+    let is_left = used < digits.len();
+    if is_left {
         return Built::Refused(5, count);
     }
     builder::build(standing, relatives, found, base)

@@ -17,6 +17,9 @@ use rules::RelativePlace;
 // The longest text that is read.
 const MAX_LENGTH: usize = 4096;
 
+const MOST_ITEMS: usize = 64;
+
+#[tactic(auto, using(crate::proofs::Steps::steps))]
 pub fn read_text(text: &[u8], base: ExtendedDateTime) -> Built
     ensures { built_of result ≡ read_text text.now base }
 {
@@ -76,7 +79,7 @@ fn build_text(text: &[u8], base: ExtendedDateTime) -> Built
         let read = item_forms::parse_item(text, i);
         match read {
             ReadItem::Match(item, next) => {
-                if count == 64 {
+                if count == MOST_ITEMS {
                     return Built::Refused(1, 0);
                 }
                 standing = heeding::heed(standing, &text[0..0], item, count);

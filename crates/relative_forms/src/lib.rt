@@ -16,6 +16,8 @@ ghost use Rattle.relative.specs.Relative.{parse, displacement, displaced, in_uni
 use primitive::{ReadI32, ReadPlace};
 use relative::{ReadRelative, Relative};
 
+const MOST_DAYS: i64 = 2147483647;
+
 #[tactic(auto, using(relative::proofs::Chain::relatives), unfolding(relative::specs::Relative::parse))]
 pub fn parse(s: &[u8], at: usize) -> ReadRelative
     ensures { relative_answer result ≡ parse (lowered s.now) at }
@@ -101,7 +103,7 @@ fn days(n: i32, worth: u8, next: usize) -> ReadRelative
     ensures { (text : List ℕ) → relative_answer result ≡ days worth n text next }
 {
     let total = (n as i64) * (worth as i64);
-    if 2147483647 < total {
+    if MOST_DAYS < total {
         return ReadRelative::NoMatch;
     }
     if total < -2147483648 {

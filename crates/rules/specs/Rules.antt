@@ -1,6 +1,6 @@
 -- Which items may stand together: document 01, 'items/weekday.rs, items/builder.rs', and 29.1: "A date is a string, possibly empty,
 -- containing many items separated by whitespace .. The order of the items is not important."
-use Rattle.std.specs.Prelude.{ℕ, suc, ◌+◌, ◌-◌, Bool, true, false, not, ◌&&◌, ◌||◌, List, [], ◌∷◌, ◌++◌, leb, eqb, length}
+use Rattle.std.specs.Prelude.{ℕ, suc, ◌+◌, ◌-◌, Bool, true, false, not, ◌&&◌, ◌||◌, List, [], ◌∷◌, ◌++◌, leb, eqb}
 use Rattle.std.proofs.Math.Seq.{slice}
 use Rattle.extended.specs.Outcome.{Outcome, accepted, refused, check, ◌>>=◌, ◌>>◌}
 use Rattle.primitive.specs.Answer.{Answer, matched, none, stop, if}
@@ -9,7 +9,6 @@ use Rattle.dates.specs.Year.{year_from_str}
 use Rattle.dates.specs.declared.date.Date.{Date}
 use Rattle.dates.specs.declared.date.DateYear.{DateYear}
 use Rattle.dates.specs.declared.date.DateYear.TheVariants as year
-use Rattle.times.specs.declared.offset.Offset.{Offset}
 use Rattle.times.specs.declared.time.Time.{Time}
 use Rattle.times.specs.declared.time.TimeOffset.{TimeOffset}
 use Rattle.times.specs.declared.time.TimeOffset.TheVariants as offset

@@ -1,6 +1,6 @@
 -- Offsets from UTC, in the order of items/offset.rs. 29.3: "The time may alternatively be followed by a time zone correction, expressed
 -- as 'SHHMM', where S is '+' or '-', HH is a number of zone hours and MM is a number of zone minutes."
-use Rattle.std.specs.Prelude.{ℕ, ◌+◌, ◌-◌, ◌*◌, ◌/◌, ◌%◌, Bool, true, ◌&&◌, ◌||◌, not, length, ltb, leb, eqb, ℤ, pos}
+use Rattle.std.specs.Prelude.{ℕ, ◌+◌, ◌-◌, ◌*◌, ◌/◌, ◌%◌, Bool, ◌&&◌, ◌||◌, not, length, ltb, leb, eqb, ℤ, pos}
 use Rattle.primitive.specs.Answer.{Answer, Reader, matched, none, stop, if, ◌>>=◌, ◌>>◌, ◌<|>◌}
 use Rattle.primitive.specs.Primitive.{spaced, colon, plus_or_minus, dec_uint, dec_uint_str, parse_uint}
 use Rattle.primitive.specs.Epoch.{fraction}

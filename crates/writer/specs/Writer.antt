@@ -1,6 +1,6 @@
 -- The text of a record, and what writing it answers: document 01, 'Packet and text' and 'The counted calendar'.
 use Rattle.std.specs.Prelude.{ℕ, zero, suc, ◌+◌, ◌/◌, ◌%◌, max, ◌≡◌, Bool, true, false, cond, List, [], ◌∷◌, ◌++◌, eqb, ltb, leb, ℤ, pos, negsuc, nat_abs, length, take, drop}
-use Rattle.extended.specs.Outcome.{Outcome, accepted, number, value_or, check, ◌>>=◌, ◌>>◌}
+use Rattle.extended.specs.Outcome.{Outcome, accepted, number, value_or, check, ◌>>◌}
 use Rattle.extended.specs.Extended.{test}
 use Rattle.extended.specs.declared.ExtendedDateTime.{ExtendedDateTime}
 use Rattle.writer.specs.declared.Text.{Text}

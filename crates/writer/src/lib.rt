@@ -32,7 +32,8 @@ pub fn write(record: ExtendedDateTime, out: &mut [u8]) -> Written
     ensures out_after { out.new ≡ over (bytes_of (written «record» (length out.old))) out.old }
 {
     let refusal = record.refusal();
-    if refusal > 0 {
+    let is_refused = refusal > 0;
+    if is_refused {
         return refused(refusal);
     }
     let offset = magnitude(record.offset_seconds);

@@ -30,9 +30,9 @@ overflow_sub-end c =
     let ends : (c.args.at < c.in-Match.end) × (c.in-Match.end ≤ length (lowered c.args.s.now)) = run_ends digit _ _ _ _ read in
     omega (arith, ends)
 
-pub returns-then-end-at-lt5 : goal.returns-then-end-at-lt5
+pub returns-then-end-at-lt-FEWEST_DIGITS : goal.returns-then-end-at-lt-FEWEST_DIGITS
 unfolding iso2 five_digits dec_uint_str
-returns-then-end-at-lt5 c =
+returns-then-end-at-lt-FEWEST_DIGITS c =
     let read : dec_uint_str (lowered c.args.s.now) c.args.at ≡ matched (slice c.args.at c.in-Match.end (lowered c.args.s.now)) c.in-Match.end =
     let a = c.args in
     sym c.dec_uint_str.ensures ∙ ap (slice_answer (lowered a.s.now) a.at) c.in-Match.is in

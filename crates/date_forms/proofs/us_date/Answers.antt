@@ -17,9 +17,9 @@ returns-in_default c =
     let d = parse_none 255 _ _ _ c.in-From.next (sym (ap u8_answer c.in_default.is) ∙ c.u8_from_str.ensures) in
     simp (c.in-From.is, le-leb 4 (length w) (omega arith), d)
 
-pub returns-then-digit_count-ge4 : goal.returns-then-digit_count-ge4
+pub returns-then-digit_count-ge-YEAR_DIGITS : goal.returns-then-digit_count-ge-YEAR_DIGITS
 unfolding us_at us_date
-returns-then-digit_count-ge4 c =
+returns-then-digit_count-ge-YEAR_DIGITS c =
     let w = slice c.args.from c.args.to (lowered c.args.s.now) in
     let d = parse_moved 255 _ _ _ c.in-From.next _ _ (sym (ap u8_answer c.in-Match.is) ∙ c.u8_from_str.ensures) in
     simp (c.in-From.is, le-leb 4 (length w) (omega arith), d) c.with_year.ensures

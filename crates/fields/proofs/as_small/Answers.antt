@@ -6,11 +6,11 @@ use mir.Facts.{to_z_pos}
 use Rattle.fields.proofs.Numbers.{below_value, small_low, small_far, small_high}
 use Rattle.fields.proofs.as_small.Goals as goal
 
-pub returns-then-n-lt2147483648 : goal.returns-then-n-lt2147483648
-returns-then-n-lt2147483648 c = rw (to_z_pos w32 {n = c.args.n} (omega arith)) (small_low c.args.n c.if-n-lt2147483648.true)
+pub returns-then-is_small : goal.returns-then-is_small
+returns-then-is_small c = rw (to_z_pos w32 {n = c.args.n} (omega arith)) (small_low c.args.n c.if-is_small.true)
 
 pub returns-then-n-lt18446744071562067968 : goal.returns-then-n-lt18446744071562067968
-returns-then-n-lt18446744071562067968 c = small_far c.args.n c.if-n-lt2147483648.false c.if-n-lt18446744071562067968.true
+returns-then-n-lt18446744071562067968 c = small_far c.args.n c.if-is_small.false c.if-n-lt18446744071562067968.true
 
 pub returns : goal.returns
 returns c = rw (below_value w32 (18446744073709551615 - c.args.n) (omega arith)) (small_high c.args.n c.if-n-lt18446744071562067968.false (omega (arith, c.ranges.n.fits)))

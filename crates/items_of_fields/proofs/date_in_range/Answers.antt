@@ -2,11 +2,11 @@
 use Rattle.fields.proofs.Cases.{cases}
 use Rattle.items_of_fields.proofs.date_in_range.Goals as goal
 
-pub returns-then-year-gt2147485547 : goal.returns-then-year-gt2147485547
-returns-then-year-gt2147485547 c = search cases
+pub returns-then-year-gt-LAST_YEAR : goal.returns-then-year-gt-LAST_YEAR
+returns-then-year-gt-LAST_YEAR c = search cases
 
-pub returns-else-year-gt2147485547 : goal.returns-else-year-gt2147485547
-returns-else-year-gt2147485547 c = search cases
+pub returns-else-year-gt-LAST_YEAR : goal.returns-else-year-gt-LAST_YEAR
+returns-else-year-gt-LAST_YEAR c = search cases
 
 pub returns-in-Absent : goal.returns-in-Absent
 returns-in-Absent c = search cases

@@ -2,7 +2,7 @@
 use lib.Seq.{slice}
 use Rattle.primitive.proofs.Values.{grown_from}
 use mathlib.Core.Path.{◌≡◌}
-use Prim.Native.Nat.{◌≤◌, max, ◌-◌}
+use Prim.Native.Nat.{◌≤◌, ◌-◌}
 use Rattle.primitive.specs.Primitive.{decimal}
 use Rattle.primitive.specs.Text.{lowered}
 use Rattle.numbers.proofs.parse_uint.Given as goal

@@ -31,8 +31,8 @@ returns-in-Bad c =
     let l = r in
     left_bad _ _ _ _ _ _ _ _ _ _ l.loop-i.invariant.5 r.loop-i-test.true _ r.next_item-read.ensures c.in-Bad.is
 
-pub returns-then-used-digits : goal.returns-then-used-digits
-returns-then-used-digits c = let l = c in left_over _ _ _ _ _ _ _ _ _ _ l.loop-i.invariant.5 l.loop-i.invariant.0 c.loop-i-test.false (rw (length_lowered _) c.if-used-digits.true)
+pub returns-then-is_left : goal.returns-then-is_left
+returns-then-is_left c = let l = c in left_over _ _ _ _ _ _ _ _ _ _ l.loop-i.invariant.5 l.loop-i.invariant.0 c.loop-i-test.false (rw (length_lowered _) c.if-is_left.true)
 
 pub returns : goal.returns
-returns c = let l = c in left_built _ _ _ _ _ _ _ _ _ _ l.loop-i.invariant.5 l.loop-i.invariant.0 c.loop-i-test.false (rw (length_lowered _) c.if-used-digits.false) _ c.build.ensures
+returns c = let l = c in left_built _ _ _ _ _ _ _ _ _ _ l.loop-i.invariant.5 l.loop-i.invariant.0 c.loop-i-test.false (rw (length_lowered _) c.if-is_left.false) _ c.build.ensures

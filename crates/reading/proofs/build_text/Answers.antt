@@ -9,11 +9,11 @@ use Rattle.reading.proofs.build_text.Goals as goal
 pub loop-read-init : goal.loop-read-init
 loop-read-init c = (omega arith, omega arith, refl, left_start _ _ _ _ c.start-standing.ensures)
 
-pub returns-then-count-eq64 : goal.returns-then-count-eq64
-returns-then-count-eq64 c =
+pub returns-then-count-eq-MOST_ITEMS : goal.returns-then-count-eq-MOST_ITEMS
+returns-then-count-eq-MOST_ITEMS c =
     let r = c in
     let l = r in
-    left_full _ _ _ _ _ _ _ _ l.loop-read.invariant.3 _ r.space.ensures r.loop-read-test.true _ r.parse_item-read.ensures _ _ c.in-Match.is c.if-count-eq64.true
+    left_full _ _ _ _ _ _ _ _ l.loop-read.invariant.3 _ r.space.ensures r.loop-read-test.true _ r.parse_item-read.ensures _ _ c.in-Match.is c.if-count-eq-MOST_ITEMS.true
 
 pub loop-read-preserved : goal.loop-read-preserved
 unfolding lowered
@@ -26,7 +26,7 @@ loop-read-preserved c =
       omega arith,
       omega arith,
       search rules,
-      left_next a.text.now a.base v.count v.found v.standing v.relatives v.i _ v.invariant.3 _ r.space.ensures r.loop-read-test.true _ r.parse_item-read.ensures _ _ c.in-Match.is c.if-count-eq64.false v.invariant.0 v.invariant.2 v.invariant.1 c.heed-standing.result c.heed-standing.ensures c.relative_of-more.result f.0 f.1,
+      left_next a.text.now a.base v.count v.found v.standing v.relatives v.i _ v.invariant.3 _ r.space.ensures r.loop-read-test.true _ r.parse_item-read.ensures _ _ c.in-Match.is c.if-count-eq-MOST_ITEMS.false v.invariant.0 v.invariant.2 v.invariant.1 c.heed-standing.result c.heed-standing.ensures c.relative_of-more.result f.0 f.1,
     )
 
 pub returns-in-NoMatch : goal.returns-in-NoMatch

@@ -10,7 +10,7 @@ use Rattle.primitive.specs.Primitive.{words}
 use Rattle.primitive.proofs.Tables.{keys, values}
 use Rattle.relative.specs.Relative.{units}
 use Rattle.relative.specs.declared.Relative.{Relative}
-use Rattle.relative.proofs.Units.{unit_in, unit_out, past_ten}
+use Rattle.relative.proofs.Units.{unit_in, unit_out}
 use Rattle.relative_forms.proofs.in_unit.Goals as goal
 
 -- what stands behind the units' table

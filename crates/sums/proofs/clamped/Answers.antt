@@ -8,7 +8,7 @@ use mir.Syntax.{w64}
 use mir.Facts.{to_z_pos}
 use Rattle.extended.proofs.Adding.{no_days}
 use Rattle.extended.proofs.Outcomes.{passed, refused_by}
-use Rattle.extended.proofs.Records.{tested, year_fact, year_proper}
+use Rattle.extended.proofs.Records.{year_fact, year_proper}
 use Rattle.calendar.specs.Calendar.{month_days}
 use Rattle.extended.specs.Extended.{accept, add_days, clamp, date, made_of, make, test, test_year, time_of, with_date}
 use Rattle.extended.specs.Outcome.{Outcome, ◌>>=◌, ◌>>◌, accepted, refused}

@@ -22,15 +22,15 @@ use Rattle.writer.proofs.write.Goals as goal
 abbrev answered : ℕ → Written
 answered n = record { number = 0; length = n }
 
-pub returns-then-refusal-gt0 : goal.returns-then-refusal-gt0
-returns-then-refusal-gt0 c =
+pub returns-then-is_refused : goal.returns-then-is_refused
+returns-then-is_refused c =
     let r = c.args.«record» in
-    let w = not_accepted r (length c.args.out.now) (refused_by (test r) c.refusal-refusal.ensures c.if-refusal-gt0.true) in
+    let w = not_accepted r (length c.args.out.now) (refused_by (test r) c.refusal-refusal.ensures c.if-is_refused.true) in
     record { value = rw w c.refused.ensures; out_after = rw w }
 
 pub returns-then-offset-gt0 : goal.returns-then-offset-gt0
 returns-then-offset-gt0 c =
-    let tested : test c.args.«record» ≡ accepted tt = passed (record_proper c.args.«record») c.refusal-refusal.ensures c.if-refusal-gt0.false in
+    let tested : test c.args.«record» ≡ accepted tt = passed (record_proper c.args.«record») c.refusal-refusal.ensures c.if-is_refused.false in
     let offset_fits : SFits w32 c.args.«record».offset_seconds = search rules in
     let size_is : c.magnitude-offset.result ≡ nat_abs c.args.«record».offset_seconds = rw (to_z-of_z offset_fits) at c.magnitude-offset.ensures in
     let r = c.args.«record» in
@@ -40,7 +40,7 @@ returns-then-offset-gt0 c =
 
 pub returns-then-n-out : goal.returns-then-n-out
 returns-then-n-out c =
-    let tested : test c.args.«record» ≡ accepted tt = passed (record_proper c.args.«record») c.refusal-refusal.ensures c.if-refusal-gt0.false in
+    let tested : test c.args.«record» ≡ accepted tt = passed (record_proper c.args.«record») c.refusal-refusal.ensures c.if-is_refused.false in
     let offset_fits : SFits w32 c.args.«record».offset_seconds = search rules in
     let size_is : c.magnitude-offset.result ≡ nat_abs c.args.«record».offset_seconds = rw (to_z-of_z offset_fits) at c.magnitude-offset.ensures in
     let whole : whole_minutes c.args.«record».offset_seconds ≡ true = even c.magnitude-offset.result _ size_is c.if-offset-gt0.false in
@@ -69,7 +69,7 @@ overflow_cast-result c =
 
 pub returns : goal.returns
 returns c =
-    let tested : test c.args.«record» ≡ accepted tt = passed (record_proper c.args.«record») c.refusal-refusal.ensures c.if-refusal-gt0.false in
+    let tested : test c.args.«record» ≡ accepted tt = passed (record_proper c.args.«record») c.refusal-refusal.ensures c.if-is_refused.false in
     let offset_fits : SFits w32 c.args.«record».offset_seconds = search rules in
     let size_is : c.magnitude-offset.result ≡ nat_abs c.args.«record».offset_seconds = rw (to_z-of_z offset_fits) at c.magnitude-offset.ensures in
     let whole : whole_minutes c.args.«record».offset_seconds ≡ true = even c.magnitude-offset.result _ size_is c.if-offset-gt0.false in

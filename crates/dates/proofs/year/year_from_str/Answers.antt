@@ -6,7 +6,6 @@ use lib.ListN.{length}
 use borrow.Author.Tests.{le-leb, lt-leb}
 use Rattle.dates.proofs.Years.{parsed_is, parsed_none, widened_up}
 use Rattle.dates.specs.Year.{widened_by, year_from_str}
-use Rattle.extended.proofs.Examples.{at}
 use Rattle.primitive.specs.Answer.{matched}
 use Rattle.primitive.specs.Primitive.{decimal, u64_answer}
 use Rattle.primitive.specs.Text.{lowered}
