@@ -119,7 +119,8 @@ pub fn as_small(n: u64) -> Small
     if is_small {
         return Small::Fits(n as i32);
     }
-    if n < 0xffff_ffff_8000_0000 {
+    let is_between = n < 0xffff_ffff_8000_0000;
+    if is_between {
         return Small::Overflow;
     }
     Small::Fits(-1 - ((0xffff_ffff_ffff_ffff - n) as i32))

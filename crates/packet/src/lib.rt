@@ -154,7 +154,7 @@ fn current<'a>(p: Packet<'a>) -> Fields
     item_at(p.bytes, p.index)
 }
 
-// With plain parameters: whoever calls it needs no walk.
+// With plain parameters, for the other functions.
 fn packet_item(bytes: &[u8], index: u32) -> Fields
     ensures { result ≡ fields_at bytes.now index }
 {

@@ -110,7 +110,8 @@ fn comment(s: &[u8], at: usize) -> ReadPlace
         if b == 41 {
             return ReadPlace::Match(i + 1);
         }
-        if b == 40 {
+        let is_open = b == 40;
+        if is_open {
             let ReadPlace::Match(next) = comment(s, i) else {
                 return ReadPlace::NoMatch;
             };

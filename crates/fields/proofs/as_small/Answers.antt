@@ -9,8 +9,8 @@ use Rattle.fields.proofs.as_small.Goals as goal
 pub returns-then-is_small : goal.returns-then-is_small
 returns-then-is_small c = rw (to_z_pos w32 {n = c.args.n} (omega arith)) (small_low c.args.n c.if-is_small.true)
 
-pub returns-then-n-lt18446744071562067968 : goal.returns-then-n-lt18446744071562067968
-returns-then-n-lt18446744071562067968 c = small_far c.args.n c.if-is_small.false c.if-n-lt18446744071562067968.true
+pub returns-then-is_between : goal.returns-then-is_between
+returns-then-is_between c = small_far c.args.n c.if-is_small.false c.if-is_between.true
 
 pub returns : goal.returns
-returns c = rw (below_value w32 (18446744073709551615 - c.args.n) (omega arith)) (small_high c.args.n c.if-n-lt18446744071562067968.false (omega (arith, c.ranges.n.fits)))
+returns c = rw (below_value w32 (18446744073709551615 - c.args.n) (omega arith)) (small_high c.args.n c.if-is_between.false (omega (arith, c.ranges.n.fits)))

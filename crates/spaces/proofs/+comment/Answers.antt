@@ -19,13 +19,13 @@ pub returns-in_default-comment : goal.returns-in_default-comment
 unfolding comment
 returns-in_default-comment t c = search comments
 
-pub loop-i-smaller-then-b-eq40 : goal.loop-i-smaller-then-b-eq40
+pub loop-i-smaller-then-is_open : goal.loop-i-smaller-then-is_open
 unfolding comment
-loop-i-smaller-then-b-eq40 t c = search comments
+loop-i-smaller-then-is_open t c = search comments
 
-pub loop-i-preserved-then-b-eq40 : goal.loop-i-preserved-then-b-eq40
+pub loop-i-preserved-then-is_open : goal.loop-i-preserved-then-is_open
 unfolding comment
-loop-i-preserved-then-b-eq40 t c = search comments
+loop-i-preserved-then-is_open t c = search comments
 
 pub loop-i-preserved : goal.loop-i-preserved
 unfolding comment
