@@ -4,7 +4,7 @@
 // - `time 09:30:00`, then its nanoseconds unless they are 0 and its offset if it has one: `time 09:30:00 500000000ns +02:00`;
 // - a date and a time in one item have `with` between them;
 // - `relative`, the unit and the amount, as `relative days -1`.
-use crate::numbers;
+use crate::decimals;
 use dates::date::{Date, DateYear};
 use items::{Item, ReadItem};
 use relative::Relative;
@@ -96,18 +96,18 @@ fn print_date(date: Date) {
     let year = date.year;
     match year {
         DateYear::Given(value) => {
-            numbers::print(b"date ", value);
-            numbers::print_two(b"-", date.month);
+            decimals::print(b"date ", value);
+            decimals::print_two(b"-", date.month);
         }
-        DateYear::Absent => numbers::print_two(b"date ", date.month),
+        DateYear::Absent => decimals::print_two(b"date ", date.month),
     }
-    numbers::print_two(b"-", date.day);
+    decimals::print_two(b"-", date.day);
 }
 
 fn print_time(time: Time) {
-    numbers::print_two(b"time ", time.hour);
-    numbers::print_two(b":", time.minute);
-    numbers::print_two(b":", time.second);
+    decimals::print_two(b"time ", time.hour);
+    decimals::print_two(b":", time.minute);
+    decimals::print_two(b":", time.second);
     print_nanoseconds(time.nanosecond);
     let offset = time.offset;
     if let TimeOffset::Given(value) = offset {
@@ -117,18 +117,18 @@ fn print_time(time: Time) {
 
 fn print_nanoseconds(nanosecond: u32) {
     if nanosecond > 0 {
-        numbers::print(b" ", nanosecond);
+        decimals::print(b" ", nanosecond);
         io::write_all(1, b"ns");
     }
 }
 
 fn print_offset(offset: Offset) {
     if offset.negative {
-        numbers::print_two(b" -", offset.hours);
+        decimals::print_two(b" -", offset.hours);
     } else {
-        numbers::print_two(b" +", offset.hours);
+        decimals::print_two(b" +", offset.hours);
     }
-    numbers::print_two(b":", offset.minutes);
+    decimals::print_two(b":", offset.minutes);
 }
 
 fn print_relative(v: Relative) {
@@ -143,10 +143,10 @@ fn print_relative(v: Relative) {
 }
 
 fn print_amount(unit: &[u8], n: i32) {
-    numbers::print_signed(unit, n as i64);
+    decimals::print_signed(unit, n as i64);
 }
 
 fn print_seconds(n: i64, nanosecond: u32) {
-    numbers::print_signed(b"relative seconds ", n);
+    decimals::print_signed(b"relative seconds ", n);
     print_nanoseconds(nanosecond);
 }

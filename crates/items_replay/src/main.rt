@@ -5,7 +5,7 @@
 // a text, `{N}` is the byte of that number and `{N:PART}` is N times PART, which holds no brace. A text that is longer than 4096 bytes is answered by
 // 99, which is no text's answer. The list has room for 65536 bytes.
 mod answers;
-mod numbers;
+mod decimals;
 mod standing;
 
 use standing::{Mode, Standing};

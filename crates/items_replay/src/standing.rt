@@ -1,5 +1,5 @@
 // Where the program stands between two bytes of a line.
-use crate::numbers;
+use crate::decimals;
 
 #[derive(Clone, Copy)]
 pub enum Mode {
@@ -61,7 +61,11 @@ impl Standing {
             }
             return behind(self.length).put(number as u8, text);
         }
-        in_mode(Mode::Number, self.length, numbers::with_digit(number, byte))
+        in_mode(
+            Mode::Number,
+            self.length,
+            decimals::with_digit(number, byte),
+        )
     }
 
     // Behind one byte more of the text.
@@ -87,7 +91,7 @@ impl Standing {
             return self;
         }
         let width = length - start;
-        let end = numbers::end_of_copies(start, width, self.number);
+        let end = decimals::end_of_copies(start, width, self.number);
         if end > text.len() {
             return behind(usize::MAX);
         }
