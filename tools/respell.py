@@ -2,13 +2,13 @@
 """Brings the repository's own definitions and lemmas to today's spelling: words in snake case, types and modules in camel
 case. A lemma that would have its function's name gets `_lem`.
 
-usage: tools/respell.py ROOT      ROOT: a checkout on which /opt/rattle/port/port.py has just run
+usage: tools/respell.py ROOT      ROOT: a checkout on which the kit's port.py has just run
        tools/respell.py --map ROOT    prints the names that it turns, and those that fall together
 
 It renames what the .antt files of specs/ and proofs/ declare (definitions, lemmas, rulesets, fields, constructors and local lemmas), in
 those files, in the clauses and `ghost use` lines of src/, and between backquotes in comments. Functions of src/, exported C names,
 strings, inputs and outputs keep their names. The answers of an old Proof.antt (declared by `.Need-..`) keep theirs too:
-tools/answers.py writes those files anew.
+they were written anew as Answers.antt.
 """
 
 import collections
