@@ -1,6 +1,6 @@
 -- How many digits a number has, from its last digit on. Assumes nothing.
 use native.Mathlib.Omega.{arith}
-use Prim.Native.Nat.{ℕ, zero, suc, ◌+◌, ◌-◌, ◌*◌, ◌/◌, ◌<◌, ◌≤◌, ◌^◌}
+use Prim.Native.Nat.{ℕ, zero, suc, ◌+◌, ◌*◌, ◌/◌, ◌<◌, ◌≤◌, ◌^◌}
 use native.Mathlib.Nat.{pow-suc}
 use mathlib.Core.Path.{◌≡◌}
 use Rattle.writer.specs.Writer.{width}

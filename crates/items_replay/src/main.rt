@@ -4,6 +4,8 @@
 // A line is a text, a tab, and the reason why it is in the list, which is skipped; a line without a tab is a heading and is written as it is. In
 // a text, `{N}` is the byte of that number and `{N:PART}` is N times PART, which holds no brace. A text that is longer than 4096 bytes is answered by
 // 99, which is no text's answer. The list has room for 65536 bytes.
+#![tactic(auto)]
+
 mod answers;
 mod decimals;
 mod standing;

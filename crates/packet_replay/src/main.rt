@@ -5,6 +5,8 @@
 // A line is a packet in hexadecimal, two digits a byte, a tab, and the reason why it is in the list, which is skipped; a byte in front of the
 // tab that is no such digit is skipped too. A line without a tab is a heading and is written as it is. The list has room for 65536 bytes, a
 // packet for 4096.
+#![tactic(auto)]
+
 use extended::ExtendedDateTime;
 
 // Where the program stands in a line.

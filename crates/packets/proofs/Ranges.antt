@@ -37,7 +37,7 @@ use Rattle.times.specs.declared.time.SecNsec.{SecNsec}
 use Rattle.times.specs.declared.time.Time.{Time}
 use Rattle.times.specs.declared.time.TimeOffset.{TimeOffset}
 use Rattle.times.specs.declared.time.TimeOffset.TheVariants as offset
-use Rattle.packets.proofs.Gives.{Gives, then_gives, after, next, unless_gives, or_gives, pure_gives, optional_gives, verify_gives, certain_gives, if_gives, spaced_gives, attempt_gives, by_match, of_match, Every, no_more, one_more, named_gives}
+use Rattle.packets.proofs.Gives.{Gives, then_gives, after, next, unless_gives, or_gives, pure_gives, optional_gives, verify_gives, certain_gives, if_gives, spaced_gives, attempt_gives, by_match, of_match, no_more, one_more, named_gives}
 use Rattle.items.specs.Combined.{separator, starts_with_meridiem, unless_meridiem, iso_alone, combined_time, parse_time_after_date}
 use Rattle.items.specs.Items.{date_time_item, dated_item, iso_date, iso_item, date_item, time_item, relative_item, time_or_relative, other_item, parse_item, ended, further, items_from, parse_items}
 use Rattle.items.specs.declared.combined.DateTime.{DateTime}
