@@ -16,7 +16,8 @@ pub enum Checked {
 pub fn bias(x: i64) -> u64
     ensures { result ≡ raised x }
 {
-    if x >= 0 {
+    let is_natural = x >= 0;
+    if is_natural {
         0x8000_0000_0000_0000 + (x as u64)
     } else {
         0x7fff_ffff_ffff_ffff - ((-1 - x) as u64)

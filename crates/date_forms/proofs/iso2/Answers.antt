@@ -1,4 +1,4 @@
--- `iso2` is its definition's chain: the parts of the (slice are.before.before.before.before.before.args.at are.before.end.given.0.0 (lowered are.before.before.before.before.before.args.s.now)) parts of the text. Assumes nothing.
+-- `iso2` is its definition's chain: the parts of the digits are parts of the text. Assumes nothing.
 use Prim.Native.Nat.{◌-◌, ◌<◌, ◌≤◌}
 use mathlib.Core.Path.{◌∙◌, ◌≡◌, ap, sym}
 use mathlib.Core.Bool.{true}

@@ -29,16 +29,16 @@ unfolding raised
 down_is (pos n) f p = untrue (sym p ∙ leb-zero n)
 down_is (negsuc n) f p = omega arith
 
-pub returns-then-x-ge0 : goal.returns-then-x-ge0
-returns-then-x-ge0 c =
+pub returns-then-is_natural : goal.returns-then-is_natural
+returns-then-is_natural c =
     let x_is : to_z w64 (of_z w64 c.args.x) ≡ c.args.x = to_z-of_z c.ranges.x in
-    let above : le_z (pos 0) c.args.x ≡ true = rw x_is at c.if-x-ge0.true in
+    let above : le_z (pos 0) c.args.x ≡ true = rw x_is at c.if-is_natural.true in
     rw x_is (up_is c.args.x above)
 
-pub returns-else-x-ge0 : goal.returns-else-x-ge0
-returns-else-x-ge0 c =
+pub returns-else-is_natural : goal.returns-else-is_natural
+returns-else-is_natural c =
     let x_is : to_z w64 (of_z w64 c.args.x) ≡ c.args.x = to_z-of_z c.ranges.x in
-    let below : le_z (pos 0) c.args.x ≡ false = rw x_is at c.if-x-ge0.false in
+    let below : le_z (pos 0) c.args.x ≡ false = rw x_is at c.if-is_natural.false in
     let gap : negsuc 0 -ℤ to_z w64 (of_z w64 c.args.x) ≡ pos (mag c.args.x) = rw x_is (down c.args.x below) in
     let gap_back : to_z w64 (of_z w64 (negsuc 0 -ℤ to_z w64 (of_z w64 c.args.x))) ≡ pos (mag c.args.x) = ap (λ (z : ℤ). to_z w64 (of_z w64 z)) gap ∙ to_z-of_z {w = w64} (record { sfits = c.ranges.x.sfits }) in
     rw gap_back (down_is c.args.x c.ranges.x below)
