@@ -1,4 +1,6 @@
 // The counted calendar: years, months and days, for any year.
+//
+// Numbers are widened by `as` in sums and products, where `from` in each term is no plainer; that one fits where `as` narrows it is proved.
 #![tactic(auto)]
 
 ghost use Rattle.std.specs.Prelude.{◌≡◌, ◌+◌, ◌-◌, ◌<◌, ◌≤◌};

@@ -3,56 +3,62 @@
 // (compare/README.md), so a reply that differs from the Rust's fails the gate.
 //
 // A line is a function's name and its arguments in decimal, with one space before each. A line with
-// a number beyond i64 or without a known name is answered by 99, which is no call's answer.
+// a number beyond i64, without a known name or of 4096 bytes or more is answered by 99, which is no
+// call's answer.
 #![tactic(auto)]
 
+mod arguments;
 mod calls;
 mod numbers;
 mod replies;
-mod standing;
 
-use standing::Standing;
+use arguments::Arguments;
+use arrayvec::ArrayVec;
 
-// A byte of a word, or the space or newline behind one.
-fn take_byte(byte: u8, at: Standing, arguments: &mut [u64; 13]) -> Standing {
-    if byte > b' ' {
-        return at.with_byte(byte);
+// A function's name, and its arguments.
+fn call_of(line: &ArrayVec<u8, 4096>) -> Option<(&str, Arguments)> {
+    if line.is_full() {
+        return None;
     }
-    let word = at.stored(arguments);
-    if byte == b' ' {
-        return word;
+    let line = str::from_utf8(line.as_slice()).ok()?;
+    let mut words = line.split(' ');
+    let name = words.next()?;
+    let mut arguments = Arguments::new();
+    for word in words {
+        // `parse` would take a plus.
+        if word.starts_with('+') {
+            return None;
+        }
+        arguments.push(word.parse().ok()?)?;
     }
-    calls::answer(word.name, arguments);
+    Some((name, arguments))
+}
+
+fn answer(line: &ArrayVec<u8, 4096>) {
+    match call_of(line) {
+        Some((name, arguments)) => calls::answer(name, &arguments),
+        None => replies::print_number(calls::UNKNOWN),
+    }
     io::write_all(1, b"\n");
-    standing::unnamed(0)
 }
 
-fn take_bytes(bytes: &[u8], start: Standing, arguments: &mut [u64; 13]) -> Standing {
-    let mut at = start;
-    let mut i = 0usize;
-    while i < bytes.len() {
-        at = take_byte(bytes[i], at, arguments);
-        i += 1;
-    }
-    at
-}
-
-// Nothing says that the input ends, so the turns are counted down from a number that no run uses up.
-fn run(chunk: &mut [u8], arguments: &mut [u64; 13]) {
-    let mut at = standing::unnamed(0);
-    let mut turns = u64::MAX;
-    while turns > 0 {
-        let n = io::read_full(0, chunk);
+// Nothing says that the input ends, so the turns are counted up to a number that no run reaches.
+fn main() {
+    let mut chunk = io::buffer();
+    let mut line = ArrayVec::new();
+    for _ in 0..u64::MAX {
+        let n = io::read_full(0, &mut chunk);
         if n == 0 {
             return;
         }
-        at = take_bytes(&chunk[0..n], at, arguments);
-        turns -= 1;
+        for byte in &chunk[..n] {
+            if *byte == b'\n' {
+                answer(&line);
+                line.clear();
+            } else {
+                // A line that has no room left stays full, and is answered so.
+                let _ = line.try_push(*byte);
+            }
+        }
     }
-}
-
-fn main() {
-    let mut chunk = io::buffer();
-    let mut arguments = [0u64; 13];
-    run(&mut chunk, &mut arguments);
 }

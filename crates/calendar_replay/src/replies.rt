@@ -1,25 +1,20 @@
 // Replies, written without the line's end: 0 and what the call gives, or the number of its refusal alone.
 use crate::numbers;
-use extended::{DayCount, ExtendedDateTime, Made, UnixSeconds};
+use extended::{ExtendedDateTime, Refusal};
 
-pub fn print_days(days: DayCount) {
-    match days {
-        DayCount::Days(value) => print_accepted(value as i64),
-        DayCount::Refused(number) => print_number(number),
+// A call that gives a number.
+pub fn print_count<T: Into<i64>>(reply: Result<T, Refusal>) {
+    match reply {
+        Ok(count) => print_accepted(count.into()),
+        Err(refusal) => print_number(refusal.into()),
     }
 }
 
-pub fn print_seconds(seconds: UnixSeconds) {
-    match seconds {
-        UnixSeconds::At(value) => print_accepted(value),
-        UnixSeconds::Refused(number) => print_number(number),
-    }
-}
-
-pub fn print_made(made: Made) {
+// A call that gives a record.
+pub fn print_made(made: Result<ExtendedDateTime, Refusal>) {
     match made {
-        Made::Record(record) => print_record(record),
-        Made::Refused(number) => print_number(number),
+        Ok(record) => print_record(record),
+        Err(refusal) => print_number(refusal.into()),
     }
 }
 
@@ -34,14 +29,14 @@ pub fn print_number(number: u32) {
 
 // A record has its eight numbers in order.
 fn print_record(r: ExtendedDateTime) {
-    print_accepted(r.year as i64);
-    print_next(r.month as i64);
-    print_next(r.day as i64);
-    print_next(r.hour as i64);
-    print_next(r.minute as i64);
-    print_next(r.second as i64);
-    print_next(r.nanosecond as i64);
-    print_next(numbers::widened(r.offset_seconds));
+    print_accepted(r.year.into());
+    print_next(r.month.into());
+    print_next(r.day.into());
+    print_next(r.hour.into());
+    print_next(r.minute.into());
+    print_next(r.second.into());
+    print_next(r.nanosecond.into());
+    print_next(r.offset_seconds.into());
 }
 
 fn print_next(value: i64) {

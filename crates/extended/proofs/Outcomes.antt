@@ -1,6 +1,6 @@
 -- Laws of answers: what a number says of the tests behind it. Assumes nothing.
-use Prim.Native.Nat.{ℕ, suc, ◌<◌, ◌≤◌}
-use mathlib.Core.Path.{◌≡◌, refl, sym, ap, ◌∙◌}
+use Prim.Native.Nat.{ℕ, suc, ◌≤◌}
+use mathlib.Core.Path.{◌≡◌, refl, sym, ◌∙◌}
 use mathlib.Core.Bool.{Bool, true, false}
 use native.Mathlib.Omega.{arith}
 use Rattle.extended.specs.Outcome.{Outcome, accepted, refused, number, check, ◌>>=◌, ◌>>◌}
@@ -11,14 +11,6 @@ apart e = let z : ◌≡◌ {A = ℕ} 0 1 = cc in absurd (clash z)
   where
     clash : ◌≡◌ {A = ℕ} 0 1 → ⊥
     clash z = omega arith
-
--- a number above 0 is that of a refusal
-pub refused_by : {A : Type 0} (t : Outcome A) {n : ℕ} → n ≡ number t → 0 < n → t ≡ refused n
-refused_by (accepted a) e h = absurd (clash e h)
-  where
-    clash : {n : ℕ} → n ≡ 0 → 0 < n → ⊥
-    clash e h = omega arith
-refused_by (refused k) e h = ap refused (sym e)
 
 -- a test whose number is 0 is passed, where its refusal's number is not 0
 abbrev pub Proper : Outcome (Unit {0}) → Type 0

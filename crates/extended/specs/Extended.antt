@@ -1,46 +1,24 @@
 -- What the functions of `extended` answer: document 01, 'extended.rs' and 'Answers by number'.
-use Rattle.std.specs.Prelude.{ℕ, ◌+◌, ◌-◌, ◌*◌, ◌/◌, ◌%◌, min, ◌&&◌, cond, ltb, leb, ℤ, pos, negsuc, ◌+ℤ◌, ◌-ℤ◌}
+use Rattle.std.specs.Prelude.{ℕ, ◌+◌, ◌-◌, ◌*◌, ◌/◌, ◌%◌, min, ◌&&◌, cond, ltb, leb, ℤ, pos, negsuc, ◌+ℤ◌, ◌-ℤ◌, Option, Some, None}
 use Rattle.std.specs.Int.Signed.{le_z}
 use Rattle.integers.specs.Integers.{sum, product, natural_of}
-use Rattle.integers.specs.declared.Checked.{Checked}
-use Rattle.integers.specs.declared.Checked.TheVariants.{Fits, Overflow}
-use Rattle.integers.specs.declared.Natural.{Natural}
-use Rattle.integers.specs.declared.Natural.TheVariants as natural
 use Rattle.extended.specs.Outcome.{Outcome, accepted, refused, check, ◌>>=◌, ◌>>◌}
 use Rattle.calendar.specs.Calendar.{month_days, days_of_months, day_number, civil}
 use Rattle.extended.specs.Calendar.{monday_weekday, sunday_weekday}
 use Rattle.extended.specs.declared.DateParts.{DateParts}
 use Rattle.extended.specs.declared.TimeParts.{TimeParts}
 use Rattle.extended.specs.declared.ExtendedDateTime.{ExtendedDateTime}
-use Rattle.extended.specs.declared.Made.{Made}
-use Rattle.extended.specs.declared.Made.TheVariants as made
-use Rattle.extended.specs.declared.UnixSeconds.{UnixSeconds}
-use Rattle.extended.specs.declared.UnixSeconds.TheVariants as unix
-use Rattle.extended.specs.declared.DayCount.{DayCount}
-use Rattle.extended.specs.declared.DayCount.TheVariants as count
 
--- ---- the answers of the code's enums
-abbrev pub made_of : Made → Outcome ExtendedDateTime
-made_of (made.Record r) = accepted r
-made_of (made.Refused n) = refused n
-
-abbrev pub seconds_of : UnixSeconds → Outcome ℤ
-seconds_of (unix.At s) = accepted s
-seconds_of (unix.Refused n) = refused n
-
-abbrev pub count_of : DayCount → Outcome ℕ
-count_of (count.Days n) = accepted n
-count_of (count.Refused n) = refused n
-
+-- ---- whole numbers that may be too large, or below 0
 -- "an overflow the Rust names" is 18
-abbrev pub checked : Checked → Outcome ℤ
-checked (Fits z) = accepted z
-checked Overflow = refused 18
+abbrev pub checked : Option ℤ → Outcome ℤ
+checked (Some z) = accepted z
+checked None = refused 18
 
 -- "year below 0" is 10
-abbrev pub from_zero : Natural → Outcome ℕ
-from_zero (natural.At n) = accepted n
-from_zero natural.Below = refused 10
+abbrev pub from_zero : Option ℕ → Outcome ℕ
+from_zero (Some n) = accepted n
+from_zero None = refused 10
 
 -- ---- records
 -- the one place where a record is put together

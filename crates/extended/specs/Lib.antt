@@ -3,3 +3,4 @@ pub mod Outcome
 pub mod Placed
 pub mod Calendar
 pub mod Extended
+pub mod Refusals

@@ -1,15 +1,18 @@
 // A date and time whose year may be as large as 2147485547, after the Rust's extended.rs.
 //
 // A record is accepted where `new` refuses none of its numbers. Every function takes any record and
-// any numbers: a record that `new` refuses gets `new`'s number, and every refusal is a number of the
-// table of answers (9 to 18 here), given in the order of the tests.
+// any numbers: a record that `new` refuses gets `new`'s refusal, and the refusals (9 to 18 here) are given
+// in the order of the tests.
 #![tactic(auto)]
 
 ghost use Rattle.std.specs.Prelude.{◌≡◌};
-ghost use Rattle.extended.specs.Outcome.{number};
-ghost use Rattle.extended.specs.Extended.{made_of, make, blank, date, time, date_of, time_of, test_date, test_time, test_offset, test, test_year, accept, with_date, with_time, with_offset};
+ghost use Rattle.extended.specs.Refusals.{outcome_of};
+ghost use Rattle.extended.specs.Extended.{make, blank, date, time, date_of, time_of, test_date, test_time, test_offset, test, test_year, accept, with_date, with_time, with_offset};
+
+mod refusals;
 
 pub use calendar::{days_in_month, is_leap_year};
+pub use refusals::{PlacedRefusal, Refusal};
 
 // The largest year that is accepted.
 pub const GNU_MAX_YEAR: u32 = 2147485547;
@@ -43,37 +46,18 @@ pub struct TimeParts {
     pub nanosecond: u32,
 }
 
-// A record, or the number of its refusal.
-#[derive(Clone, Copy)]
-pub enum Made {
-    Record(ExtendedDateTime),
-    Refused(u32),
-}
-
-// A moment in seconds, or the number of the record's refusal.
-#[derive(Clone, Copy)]
-pub enum UnixSeconds {
-    At(i64),
-    Refused(u32),
-}
-
-// A day of a year or of a week, or the number of the record's refusal.
-#[derive(Clone, Copy)]
-pub enum DayCount {
-    Days(u32),
-    Refused(u32),
-}
-
 impl ExtendedDateTime {
-    pub fn new(date: DateParts, time: TimeParts, offset_seconds: i32) -> Made
-        ensures { made_of result ≡ accept (make date time offset_seconds) }
+    #[tactic(auto, unfolding(crate::specs::Extended::accept))]
+    pub fn new(
+        date: DateParts,
+        time: TimeParts,
+        offset_seconds: i32,
+    ) -> Result<ExtendedDateTime, Refusal>
+        ensures { outcome_of result ≡ accept (make date time offset_seconds) }
     {
         let made = from_parts(date, time, offset_seconds);
-        let refusal = made.refusal();
-        if refusal > 0 {
-            return Made::Refused(refusal);
-        }
-        Made::Record(made)
+        made.test()?;
+        Ok(made)
     }
 
     // Eight zeros: the record of a refusal.
@@ -94,13 +78,11 @@ impl ExtendedDateTime {
         from_parts(date, time, 0)
     }
 
-    pub fn with_date(self, year: u32, month: u8, day: u8) -> Made
-        ensures { made_of result ≡ with_date self (date year month day) }
+    #[tactic(auto, unfolding(crate::specs::Extended::with_date))]
+    pub fn with_date(self, year: u32, month: u8, day: u8) -> Result<ExtendedDateTime, Refusal>
+        ensures { outcome_of result ≡ with_date self (date year month day) }
     {
-        let refusal = self.refusal();
-        if refusal > 0 {
-            return Made::Refused(refusal);
-        }
+        self.test()?;
         ExtendedDateTime::new(
             DateParts { year, month, day },
             self.time(),
@@ -108,13 +90,17 @@ impl ExtendedDateTime {
         )
     }
 
-    pub fn with_time(self, hour: u8, minute: u8, second: u8, nanosecond: u32) -> Made
-        ensures { made_of result ≡ with_time self (time hour minute second nanosecond) }
+    #[tactic(auto, unfolding(crate::specs::Extended::with_time))]
+    pub fn with_time(
+        self,
+        hour: u8,
+        minute: u8,
+        second: u8,
+        nanosecond: u32,
+    ) -> Result<ExtendedDateTime, Refusal>
+        ensures { outcome_of result ≡ with_time self (time hour minute second nanosecond) }
     {
-        let refusal = self.refusal();
-        if refusal > 0 {
-            return Made::Refused(refusal);
-        }
+        self.test()?;
         ExtendedDateTime::new(
             self.date(),
             TimeParts {
@@ -127,29 +113,21 @@ impl ExtendedDateTime {
         )
     }
 
-    pub fn with_offset(self, offset_seconds: i32) -> Made
-        ensures { made_of result ≡ with_offset self offset_seconds }
+    #[tactic(auto, unfolding(crate::specs::Extended::with_offset))]
+    pub fn with_offset(self, offset_seconds: i32) -> Result<ExtendedDateTime, Refusal>
+        ensures { outcome_of result ≡ with_offset self offset_seconds }
     {
-        let refusal = self.refusal();
-        if refusal > 0 {
-            return Made::Refused(refusal);
-        }
+        self.test()?;
         ExtendedDateTime::new(self.date(), self.time(), offset_seconds)
     }
 
-    // The number of the first test that the record fails, 0 where it is accepted.
-    pub fn refusal(self) -> u32
-        ensures { result ≡ number (test self) }
+    // The tests of `new`: the first that the record fails is its refusal.
+    pub fn test(self) -> Result<(), Refusal>
+        ensures { outcome_of result ≡ test self }
     {
-        let refusal = date_refusal(self.date());
-        if refusal > 0 {
-            return refusal;
-        }
-        let refusal = time_refusal(self.time());
-        if refusal > 0 {
-            return refusal;
-        }
-        offset_refusal(self.offset_seconds)
+        test_date(self.date())?;
+        test_time(self.time())?;
+        test_offset(self.offset_seconds)
     }
 
     // ---- what the functions above share
@@ -194,73 +172,73 @@ pub fn from_parts(date: DateParts, time: TimeParts, offset_seconds: i32) -> Exte
 
 // The tests of `new`, in its order.
 #[tactic(auto, unfolding(crate::specs::Extended::test_date), using(calendar::proofs::Counting::month_bounds))]
-fn date_refusal(date: DateParts) -> u32
-    ensures { result ≡ number (test_date date) }
+fn test_date(date: DateParts) -> Result<(), Refusal>
+    ensures { outcome_of result ≡ test_date date }
 {
     if date.year > GNU_MAX_YEAR {
-        return 9;
+        return Err(Refusal::Over);
     }
     if date.month < 1 {
-        return 11;
+        return Err(Refusal::Month);
     }
     if date.month > 12 {
-        return 11;
+        return Err(Refusal::Month);
     }
     if date.day < 1 {
-        return 12;
+        return Err(Refusal::Day);
     }
     // Every month has these days, so that most dates ask no table and no leap year.
     if date.day <= 28 {
-        return 0;
+        return Ok(());
     }
     if date.day > days_in_month(date.year, date.month) {
-        return 12;
+        return Err(Refusal::Day);
     }
-    0
+    Ok(())
 }
 
 #[tactic(auto, unfolding(crate::specs::Extended::test_time))]
-fn time_refusal(time: TimeParts) -> u32
-    ensures { result ≡ number (test_time time) }
+fn test_time(time: TimeParts) -> Result<(), Refusal>
+    ensures { outcome_of result ≡ test_time time }
 {
     if time.hour > 23 {
-        return 13;
+        return Err(Refusal::Hour);
     }
     if time.minute > 59 {
-        return 14;
+        return Err(Refusal::Minute);
     }
     if time.second > 59 {
-        return 15;
+        return Err(Refusal::Second);
     }
     if time.nanosecond > 999999999 {
-        return 16;
+        return Err(Refusal::Nanosecond);
     }
-    0
+    Ok(())
 }
 
 #[tactic(auto, unfolding(crate::specs::Extended::test_offset))]
-pub fn offset_refusal(offset_seconds: i32) -> u32
-    ensures { result ≡ number (test_offset offset_seconds) }
+pub fn test_offset(offset_seconds: i32) -> Result<(), Refusal>
+    ensures { outcome_of result ≡ test_offset offset_seconds }
 {
     if offset_seconds < -86400 {
-        return 17;
+        return Err(Refusal::Offset);
     }
     if offset_seconds > 86400 {
-        return 17;
+        return Err(Refusal::Offset);
     }
-    0
+    Ok(())
 }
 
 // The Rust's quirk: a year that no u32 holds is refused as a negative one is.
 #[tactic(auto, unfolding(crate::specs::Extended::test_year))]
-pub fn year_refusal(year: u64) -> u32
-    ensures { result ≡ number (test_year year) }
+pub fn test_year(year: u64) -> Result<(), Refusal>
+    ensures { outcome_of result ≡ test_year year }
 {
     if year > 4294967295 {
-        return 10;
+        return Err(Refusal::Under);
     }
     if year > 2147485547 {
-        return 9;
+        return Err(Refusal::Over);
     }
-    0
+    Ok(())
 }

@@ -3,10 +3,10 @@
 #![tactic(auto)]
 
 ghost use Rattle.std.specs.Prelude.{◌≡◌};
-ghost use Rattle.extended.specs.Extended.{made_of, seconds_of, count_of};
+ghost use Rattle.extended.specs.Refusals.{outcome_of};
 ghost use Rattle.hosts.specs.Hosts.{record_answer, moment_answer, number_answer};
 
-use extended::{DayCount, ExtendedDateTime, Made, UnixSeconds};
+use extended::{ExtendedDateTime, Refusal};
 
 pub type Record = ExtendedDateTime;
 
@@ -33,49 +33,52 @@ pub struct Number {
     pub value: u32,
 }
 
-pub fn record_answer(made: Made) -> Answer
-    ensures { result ≡ record_answer (made_of made) }
-{
-    match made {
-        Made::Record(record) => Answer {
-            number: 0,
-            place: 0,
-            record: record,
-        },
-        Made::Refused(number) => Answer {
-            number: number,
-            place: 0,
-            record: ExtendedDateTime::blank(),
-        },
+impl From<Result<ExtendedDateTime, Refusal>> for Answer {
+    ghost from_gives = { λ made answer. answer ≡ record_answer (outcome_of made) };
+
+    #[tactic(auto, unfolding(crate::specs::Hosts::record_answer))]
+    fn from(made: Result<ExtendedDateTime, Refusal>) -> Answer {
+        match made {
+            Ok(record) => Answer {
+                number: 0,
+                place: 0,
+                record,
+            },
+            Err(refusal) => Answer {
+                number: u32::from(refusal),
+                place: 0,
+                record: ExtendedDateTime::blank(),
+            },
+        }
     }
 }
 
-pub fn moment_answer(moment: UnixSeconds) -> Moment
-    ensures { result ≡ moment_answer (seconds_of moment) }
-{
-    match moment {
-        UnixSeconds::At(seconds) => Moment {
-            number: 0,
-            seconds: seconds,
-        },
-        UnixSeconds::Refused(number) => Moment {
-            number: number,
-            seconds: 0,
-        },
+impl From<Result<i64, Refusal>> for Moment {
+    ghost from_gives = { λ made moment. moment ≡ moment_answer (outcome_of made) };
+
+    #[tactic(auto, unfolding(crate::specs::Hosts::moment_answer))]
+    fn from(made: Result<i64, Refusal>) -> Moment {
+        match made {
+            Ok(seconds) => Moment { number: 0, seconds },
+            Err(refusal) => Moment {
+                number: u32::from(refusal),
+                seconds: 0,
+            },
+        }
     }
 }
 
-pub fn number_answer(count: DayCount) -> Number
-    ensures { result ≡ number_answer (count_of count) }
-{
-    match count {
-        DayCount::Days(days) => Number {
-            number: 0,
-            value: days,
-        },
-        DayCount::Refused(number) => Number {
-            number: number,
-            value: 0,
-        },
+impl From<Result<u32, Refusal>> for Number {
+    ghost from_gives = { λ made number. number ≡ number_answer (outcome_of made) };
+
+    #[tactic(auto, unfolding(crate::specs::Hosts::number_answer))]
+    fn from(made: Result<u32, Refusal>) -> Number {
+        match made {
+            Ok(value) => Number { number: 0, value },
+            Err(refusal) => Number {
+                number: u32::from(refusal),
+                value: 0,
+            },
+        }
     }
 }

@@ -1,10 +1,6 @@
 -- What the functions of `integers` compute, in whole numbers without bound.
-use Rattle.std.specs.Prelude.{ℕ, suc, ◌+◌, ◌-◌, ◌^◌, Bool, true, false, ◌&&◌, ltb, ℤ, pos, negsuc, ◌+ℤ◌, ◌*ℤ◌}
+use Rattle.std.specs.Prelude.{ℕ, suc, ◌+◌, ◌-◌, ◌^◌, Bool, true, false, ◌&&◌, ltb, ℤ, pos, negsuc, ◌+ℤ◌, ◌*ℤ◌, Option, Some, None}
 use Rattle.std.specs.Int.Signed.{mag, le_z}
-use Rattle.integers.specs.declared.Checked.{Checked}
-use Rattle.integers.specs.declared.Checked.TheVariants.{Fits, Overflow}
-use Rattle.integers.specs.declared.Natural.{Natural}
-use Rattle.integers.specs.declared.Natural.TheVariants.{At, Below}
 
 -- z + 2^63, for a z that is not below -2^63
 unfoldable pub raised : ℤ → ℕ
@@ -15,21 +11,21 @@ raised (negsuc n) = 2 ^ 63 - suc n
 abbrev pub in_i64 : ℤ → Bool
 in_i64 z = ltb (mag z) (2 ^ 63)
 
-abbrev pub fits_if : Bool → ℤ → Checked
-fits_if true z = Fits z
-fits_if false z = Overflow
+abbrev pub fits_if : Bool → ℤ → Option ℤ
+fits_if true z = Some z
+fits_if false z = None
 
 -- a + b and a × b, where an i64 holds them
-unfoldable pub sum : ℤ → ℤ → Checked
+unfoldable pub sum : ℤ → ℤ → Option ℤ
 sum a b = fits_if (in_i64 (a +ℤ b)) (a +ℤ b)
 
-unfoldable pub product : ℤ → ℤ → Checked
+unfoldable pub product : ℤ → ℤ → Option ℤ
 product a b = fits_if (in_i64 (a *ℤ b)) (a *ℤ b)
 
--- z as a natural number, or that it is below 0
-unfoldable pub natural_of : ℤ → Natural
-natural_of (pos n) = At n
-natural_of (negsuc n) = Below
+-- z as a natural number, where it is not below 0
+unfoldable pub natural_of : ℤ → Option ℕ
+natural_of (pos n) = Some n
+natural_of (negsuc n) = None
 
 -- whether z is one of the numbers from -2^31 to 2^31 - 1
 abbrev pub in_i32 : ℤ → Bool

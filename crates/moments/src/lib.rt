@@ -1,97 +1,102 @@
 // Records and moments, after the Rust's extended.rs: the seconds from 1970 to a record, the record of a moment, a record some seconds later,
 // and the days of the week and of the year.
+//
+// Numbers are widened by `as` in sums and products, where `from` in each term is no plainer; that one fits where `as` narrows it is proved.
 #![tactic(auto)]
 
 ghost use Rattle.std.specs.Prelude.{◌≡◌, ◌-◌, ◌<◌, ◌≤◌, pos, ◌-ℤ◌};
 ghost use Rattle.calendar.specs.Calendar.{days_of_months, day_number};
+ghost use Rattle.extended.specs.Calendar.{weekday};
 ghost use Rattle.extended.specs.Outcome.{accepted};
-ghost use Rattle.extended.specs.Extended.{made_of, seconds_of, count_of, test, moment, unix_seconds, from_clock, from_unix_seconds, carried, add_seconds, day_of_year, weekday_sunday0, weekday_monday0};
+ghost use Rattle.extended.specs.Refusals.{outcome_of};
+ghost use Rattle.extended.specs.Extended.{test, moment, unix_seconds, from_clock, from_unix_seconds, carried, add_seconds, day_of_year, weekday_sunday0, weekday_monday0};
 
-use extended::{DateParts, DayCount, ExtendedDateTime, Made, TimeParts, UnixSeconds};
-use integers::Checked;
+use extended::{DateParts, ExtendedDateTime, Refusal, TimeParts};
 
 // A sum of nanoseconds is no more.
 const MOST_NANOSECONDS: u64 = 4294967295;
 
-pub fn from_unix_seconds(unix_seconds: i64, nanosecond: u32, offset_seconds: i32) -> Made
-    ensures { made_of result ≡ from_unix_seconds unix_seconds nanosecond offset_seconds }
+// From 0000-01-01 to 1970-01-01.
+const SECONDS_TO_1970: i128 = 62167219200;
+
+#[tactic(auto, unfolding(extended::specs::Extended::from_unix_seconds))]
+pub fn from_unix_seconds(
+    unix_seconds: i64,
+    nanosecond: u32,
+    offset_seconds: i32,
+) -> Result<ExtendedDateTime, Refusal>
+    ensures { outcome_of result ≡ from_unix_seconds unix_seconds nanosecond offset_seconds }
 {
     if nanosecond > 999999999 {
-        return Made::Refused(16);
+        return Err(Refusal::Nanosecond);
     }
-    let refusal = extended::offset_refusal(offset_seconds);
-    if refusal > 0 {
-        return Made::Refused(refusal);
-    }
-    let Checked::Fits(local) = integers::checked_add(unix_seconds, offset_seconds as i64) else {
-        return Made::Refused(18);
+    extended::test_offset(offset_seconds)?;
+    let local = integers::checked_add(unix_seconds, i64::from(offset_seconds)).ok_or(Refusal::Sum)?;
+    let Ok(clock) = u64::try_from(i128::from(local) + SECONDS_TO_1970) else {
+        return Err(Refusal::Under);
     };
-    // 2^63 less the seconds from 0000-01-01 to 1970-01-01.
-    let raised = integers::bias(local);
-    if raised < 9223371974687556608 {
-        return Made::Refused(10);
-    }
-    from_clock(raised - 9223371974687556608, nanosecond, offset_seconds)
+    from_clock(clock, nanosecond, offset_seconds)
 }
 
 // The seconds from 1970-01-01 00:00:00 at offset 0.
-pub fn unix_seconds(dt: ExtendedDateTime) -> UnixSeconds
-    ensures { seconds_of result ≡ unix_seconds dt }
+#[tactic(auto, unfolding(extended::specs::Extended::unix_seconds))]
+pub fn unix_seconds(dt: ExtendedDateTime) -> Result<i64, Refusal>
+    ensures { outcome_of result ≡ unix_seconds dt }
 {
-    let refusal = dt.refusal();
-    if refusal > 0 {
-        return UnixSeconds::Refused(refusal);
-    }
-    UnixSeconds::At(moment(dt))
+    dt.test()?; // its own refusal
+    Ok(moment(dt))
 }
 
-pub fn checked_add_seconds(dt: ExtendedDateTime, delta_seconds: i64, delta_nanoseconds: u32) -> Made
-    ensures { made_of result ≡ add_seconds dt delta_seconds delta_nanoseconds }
+#[tactic(auto, unfolding(extended::specs::Extended::add_seconds))]
+pub fn checked_add_seconds(
+    dt: ExtendedDateTime,
+    delta_seconds: i64,
+    delta_nanoseconds: u32,
+) -> Result<ExtendedDateTime, Refusal>
+    ensures { outcome_of result ≡ add_seconds dt delta_seconds delta_nanoseconds }
 {
-    let refusal = dt.refusal();
-    if refusal > 0 {
-        return Made::Refused(refusal);
-    }
-    let Checked::Fits(unix) = integers::checked_add(moment(dt), delta_seconds) else {
-        return Made::Refused(18);
-    };
+    dt.test()?;
+    let unix = integers::checked_add(moment(dt), delta_seconds).ok_or(Refusal::Sum)?;
     let nanosecond = dt.nanosecond as u64 + delta_nanoseconds as u64;
     if nanosecond > MOST_NANOSECONDS {
-        return Made::Refused(18);
+        return Err(Refusal::Sum);
     }
     carry(unix, nanosecond as u32, dt.offset_seconds)
 }
 
-pub fn day_of_year(dt: ExtendedDateTime) -> DayCount
-    ensures { count_of result ≡ day_of_year dt }
+#[tactic(auto, unfolding(extended::specs::Extended::day_of_year))]
+pub fn day_of_year(dt: ExtendedDateTime) -> Result<u32, Refusal>
+    ensures { outcome_of result ≡ day_of_year dt }
 {
-    let refusal = dt.refusal();
-    if refusal > 0 {
-        return DayCount::Refused(refusal);
-    }
-    DayCount::Days(days_before_month(dt.year, dt.month) + dt.day as u32)
+    dt.test()?;
+    Ok(days_before_month(dt.year, dt.month) + dt.day as u32)
 }
 
 // 0 for Sunday to 6 for Saturday.
-pub fn weekday_sunday0(dt: ExtendedDateTime) -> DayCount
-    ensures { count_of result ≡ weekday_sunday0 dt }
+#[tactic(auto, unfolding(extended::specs::Extended::weekday_sunday0, extended::specs::Calendar::sunday_weekday))]
+pub fn weekday_sunday0(dt: ExtendedDateTime) -> Result<u32, Refusal>
+    ensures { outcome_of result ≡ weekday_sunday0 dt }
 {
-    let refusal = dt.refusal();
-    if refusal > 0 {
-        return DayCount::Refused(refusal);
-    }
-    DayCount::Days(((days(dt) + 6) % 7) as u32)
+    dt.test()?;
+    Ok(weekday(days(dt), 6))
 }
 
 // 0 for Monday to 6 for Sunday.
-pub fn weekday_monday0(dt: ExtendedDateTime) -> DayCount
-    ensures { count_of result ≡ weekday_monday0 dt }
+#[tactic(auto, unfolding(extended::specs::Extended::weekday_monday0, extended::specs::Calendar::monday_weekday))]
+pub fn weekday_monday0(dt: ExtendedDateTime) -> Result<u32, Refusal>
+    ensures { outcome_of result ≡ weekday_monday0 dt }
 {
-    let refusal = dt.refusal();
-    if refusal > 0 {
-        return DayCount::Refused(refusal);
-    }
-    DayCount::Days(((days(dt) + 5) % 7) as u32)
+    dt.test()?;
+    Ok(weekday(days(dt), 5))
+}
+
+// The day of the week of a day number, where day 0 has the number `start`.
+#[tactic(auto, using(calendar::proofs::Counting::weekday_closed))]
+fn weekday(day: u64, start: u8) -> u32
+    requires { start < 7 }
+    ensures { result ≡ weekday start day }
+{
+    ((day % 7) as u32 + start as u32) % 7
 }
 
 // The moment of an accepted record.
@@ -115,14 +120,12 @@ fn days(dt: ExtendedDateTime) -> u64
 }
 
 // The record whose own clock is `clock` seconds past 0000-01-01 00:00:00.
-fn from_clock(clock: u64, nanosecond: u32, offset_seconds: i32) -> Made
-    ensures { made_of result ≡ from_clock clock nanosecond offset_seconds }
+#[tactic(auto, unfolding(extended::specs::Extended::from_clock, extended::specs::Extended::clock_record))]
+fn from_clock(clock: u64, nanosecond: u32, offset_seconds: i32) -> Result<ExtendedDateTime, Refusal>
+    ensures { outcome_of result ≡ from_clock clock nanosecond offset_seconds }
 {
     let civil = calendar::civil_from_days(clock / 86400);
-    let refusal = extended::year_refusal(civil.year);
-    if refusal > 0 {
-        return Made::Refused(refusal);
-    }
+    extended::test_year(civil.year)?;
     let date = DateParts {
         year: civil.year as u32,
         month: civil.month,
@@ -134,19 +137,18 @@ fn from_clock(clock: u64, nanosecond: u32, offset_seconds: i32) -> Made
         second: (clock % 60) as u8,
         nanosecond: nanosecond,
     };
-    Made::Record(extended::from_parts(date, time, offset_seconds))
+    Ok(extended::from_parts(date, time, offset_seconds))
 }
 
 // At most one second is carried out of the nanoseconds.
-fn carry(unix: i64, nanosecond: u32, offset_seconds: i32) -> Made
-    ensures { made_of result ≡ carried unix nanosecond offset_seconds }
+#[tactic(auto, unfolding(extended::specs::Extended::carried))]
+fn carry(unix: i64, nanosecond: u32, offset_seconds: i32) -> Result<ExtendedDateTime, Refusal>
+    ensures { outcome_of result ≡ carried unix nanosecond offset_seconds }
 {
     if nanosecond < 1000000000 {
         return from_unix_seconds(unix, nanosecond, offset_seconds);
     }
-    let Checked::Fits(next) = integers::checked_add(unix, 1) else {
-        return Made::Refused(18);
-    };
+    let next = integers::checked_add(unix, 1).ok_or(Refusal::Sum)?;
     from_unix_seconds(next, nanosecond - 1000000000, offset_seconds)
 }
 
