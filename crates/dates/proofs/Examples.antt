@@ -16,14 +16,14 @@ use Rattle.primitive.specs.Primitive.{multispace0, multispace1, closing, inside,
 use Rattle.dates.specs.Year.{widened_by, year_from_str, year_str}
 use Rattle.dates.specs.Date.{date_of, exists, with_year, without_year, dated, end_of_text, blank_or_end, ended, ended_year, dated_behind, nothing, hyphen, comma, dotted, iso1, five_digits, iso2, us_date, slash_part, us_rest, us, months, word_dot, literal_month, literal1, literal2, literal3, literal, parse_non_iso}
 use Rattle.dates.specs.declared.date.Date.{Date}
-use Rattle.dates.specs.declared.date.DateYear.TheVariants.{Given, Absent}
+use Rattle.std.specs.Prelude.{Some, None}
 
 -- what a reader makes of a quoted text, from its start
 abbrev reads : {A : Type 0} → Reader A → String → Answer A
 reads p text = p (lowered (bytes text)) 0
 
 abbrev ymd : ℕ → ℕ → ℕ → Date
-ymd y m d = date_of (Given y) m d
+ymd y m d = date_of (Some y) m d
 
 -- ---- document 01's thirteen: digits and the year they write; a record, or its number, and what it should be
 abbrev pub year_of : String → Answer ℕ
@@ -74,20 +74,20 @@ unfolding leap month_days lower lowered bytes blank digit run past some starts t
 iso_dates = (refl, refl, refl, refl, refl, refl, refl, refl, refl, refl, refl, refl)
 
 -- ---- slashes and dots; of three numbers the first is the year if it has four digits
-us_dates : (reads us "11/14/2022" ≡ matched (ymd 2022 11 14) 10) × (reads us "11/14" ≡ matched (date_of Absent 11 14) 5)
-    × (reads us "2022/11/14" ≡ matched (ymd 2022 11 14) 10) × (reads us "022/11/14" ≡ none) × (reads us "2/29" ≡ matched (date_of Absent 2 29) 4)
-    × (reads us "2/30" ≡ none) × (reads us "11/14/" ≡ matched (date_of Absent 11 14) 5)
-    × (reads dotted "14.11.2022" ≡ matched (ymd 2022 11 14) 10) × (reads dotted "14.11." ≡ matched (date_of Absent 11 14) 6)
-    × (reads dotted "14.11.2022x" ≡ matched (date_of Absent 11 14) 6)
+us_dates : (reads us "11/14/2022" ≡ matched (ymd 2022 11 14) 10) × (reads us "11/14" ≡ matched (date_of None 11 14) 5)
+    × (reads us "2022/11/14" ≡ matched (ymd 2022 11 14) 10) × (reads us "022/11/14" ≡ none) × (reads us "2/29" ≡ matched (date_of None 2 29) 4)
+    × (reads us "2/30" ≡ none) × (reads us "11/14/" ≡ matched (date_of None 11 14) 5)
+    × (reads dotted "14.11.2022" ≡ matched (ymd 2022 11 14) 10) × (reads dotted "14.11." ≡ matched (date_of None 11 14) 6)
+    × (reads dotted "14.11.2022x" ≡ matched (date_of None 11 14) 6)
 unfolding leap month_days lower lowered bytes blank digit run past some starts tag closing inside comment no_digit sign ignored_hyphen_or_plus ignored multispace0 multispace1 skip space decimal parse_uint dec_uint_str dec_uint widened_by year_from_str year_str exists with_year without_year dated end_of_text blank_or_end ended ended_year dated_behind nothing dotted us_date slash_part us_rest us
 us_dates = (refl, refl, refl, refl, refl, refl, refl, refl, refl, refl)
 
 -- ---- literal months; "sept" is one, "sept." is none
 literal_dates : (reads parse_non_iso "14 November 2022" ≡ matched (ymd 2022 11 14) 16) × (reads parse_non_iso "14 Nov 2022" ≡ matched (ymd 2022 11 14) 11)
     × (reads parse_non_iso "14-nov-2022" ≡ matched (ymd 2022 11 14) 11) × (reads parse_non_iso "14nov2022" ≡ matched (ymd 2022 11 14) 9)
-    × (reads parse_non_iso "14 NOV." ≡ matched (date_of Absent 11 14) 7) × (reads parse_non_iso "November 14, 2022" ≡ matched (ymd 2022 11 14) 17)
+    × (reads parse_non_iso "14 NOV." ≡ matched (date_of None 11 14) 7) × (reads parse_non_iso "November 14, 2022" ≡ matched (ymd 2022 11 14) 17)
     × (reads parse_non_iso "Nov 14 2022 x" ≡ matched (ymd 2022 11 14) 12) × (reads parse_non_iso "Nov-14-2022" ≡ matched (ymd 2022 11 14) 11)
-    × (reads parse_non_iso "sept 3" ≡ matched (date_of Absent 9 3) 6) × (reads parse_non_iso "sept. 3" ≡ none) × (reads parse_non_iso "feb 29" ≡ matched (date_of Absent 2 29) 6)
-    × (reads parse_non_iso "Nov 14,2022" ≡ matched (date_of Absent 11 14) 6) × (reads parse_non_iso "10:00" ≡ none)
+    × (reads parse_non_iso "sept 3" ≡ matched (date_of None 9 3) 6) × (reads parse_non_iso "sept. 3" ≡ none) × (reads parse_non_iso "feb 29" ≡ matched (date_of None 2 29) 6)
+    × (reads parse_non_iso "Nov 14,2022" ≡ matched (date_of None 11 14) 6) × (reads parse_non_iso "10:00" ≡ none)
 unfolding leap month_days lower lowered bytes blank digit letter run past some starts tag closing inside comment no_digit sign ignored_hyphen_or_plus ignored multispace0 multispace1 skip space decimal parse_uint dec_uint_str dec_uint alpha1 same named widened_by year_from_str year_str exists with_year without_year dated end_of_text blank_or_end ended ended_year dated_behind nothing hyphen comma dotted us_date slash_part us_rest us months word_dot literal_month literal1 literal2 literal3 literal parse_non_iso
 literal_dates = (refl, refl, refl, refl, refl, refl, refl, refl, refl, refl, refl, refl, refl)

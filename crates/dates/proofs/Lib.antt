@@ -1,5 +1,4 @@
 -- The laws of the crate `dates`.
-pub mod Chain
 pub mod Months
 pub mod Years
 pub mod Parts

@@ -1,19 +1,19 @@
 -- The names of months, by their first letter: where it is known, the table of all names gives what the table of those with that letter
 -- gives. Assumes nothing.
 use borrow.Author.Rules.{rules}
-use borrow.Author.Tests.{ne_eqb, lt-ltb, le-ltb}
+use borrow.Author.Tests.{ne_eqb}
 use Prim.Native.Nat.{ℕ, ◌<◌, ◌≤◌, ◌+◌}
 use Prim.Native.String.{String}
 use mathlib.Core.Path.{◌≡◌, refl, sym, ◌∙◌}
 use mathlib.Core.List.{List, [], ◌∷◌}
 use lib.ListN.{length, get_or}
 use lib.Seq.{slice}
-use Rattle.primitive.specs.Answer.{Answer, matched, none}
+use Rattle.primitive.specs.Answer.{Answer, none, found_at}
 use Rattle.primitive.specs.Text.{lower, lowered, bytes}
-use Rattle.primitive.specs.Primitive.{same, named, index}
+use Rattle.primitive.specs.Primitive.{same, named, beside}
 use Rattle.primitive.proofs.Lowered.{slice_first, slice_beyond, slice_over}
-use Rattle.primitive.proofs.Tables.{keys, values, named_at}
-use Rattle.dates.specs.Date.{months, month_in}
+use Rattle.primitive.proofs.Tables.{in_lower, in_bytes, beside_named}
+use Rattle.dates.specs.Date.{months}
 
 -- a word without a letter is no month
 module _ (s : List ℕ) (start end : ℕ) where
@@ -29,20 +29,11 @@ module _ (s : List ℕ) (start end : ℕ) where
 abbrev pub Beginning : ℕ → List (String × ℕ) → Type 0
 Beginning b es = (w text : List ℕ) (at : ℕ) → named months (b ∷ w) text at ≡ named es (b ∷ w) text at
 
-pub by_letter : (l : ℕ) (es : List (String × ℕ)) → Beginning l es → (ws : List (List ℕ)) (ms : List ℕ) → ws ≡ keys es → ms ≡ values es →
-    (s : List ℕ) (start end : ℕ) (a : Answer ℕ) → a ≡ month_in (index (slice start end (lowered s)) ws) ms end →
-    start < end → start < length s → l ≡ lower (get_or s start 0) → a ≡ named months (slice start end (lowered s)) (lowered s) end
-by_letter l es begins ws ms g m s start end a q h k e =
+pub by_letter : (l : ℕ) (es : List (String × ℕ)) → Beginning l es → (rows : List (List ℕ × ℕ)) → in_lower rows ≡ in_bytes es → (s : List ℕ) (start end : ℕ) (a : Answer ℕ) →
+    a ≡ found_at end (beside rows (slice start end (lowered s))) → start < end → start < length s → l ≡ lower (get_or s start 0) → a ≡ named months (slice start end (lowered s)) (lowered s) end
+by_letter l es begins rows g s start end a q h k e =
     let z = slice_first s start end h k l e in
-    rw z (rw z at q ∙ (named_at 0 (l ∷ slice (start + 1) end (lowered s)) (lowered s) end es ws ms g m ∙ sym (begins (slice (start + 1) end (lowered s)) (lowered s) end)))
-
--- what `find_word` found in such a table
-module _ (k n : ℕ) (ms : List ℕ) (at : ℕ) (e : k ≡ n) where
-  pub month_at : k < length ms → matched (get_or ms k 0) at ≡ month_in n ms at
-  month_at h = rw (← e, lt-ltb k (length ms) h)
-
-  pub month_none : length ms ≤ k → none ≡ month_in n ms at
-  month_none h = rw (← e, le-ltb k (length ms) h)
+    rw z (rw z at q ∙ (beside_named (lowered s) end (l ∷ slice (start + 1) end (lowered s)) es rows g ∙ sym (begins (slice (start + 1) end (lowered s)) (lowered s) end)))
 
 unfoldable pub j_months : List (String × ℕ)
 j_months = ("january", 1) ∷ ("jan", 1) ∷ ("jan.", 1) ∷ ("june", 6) ∷ ("jun", 6) ∷ ("jun.", 6) ∷ ("july", 7) ∷ ("jul", 7) ∷ ("jul.", 7) ∷ []
@@ -109,4 +100,4 @@ other_letter s start end h k b e j m a f g o n d =
     rw
     (slice_first s start end h k b e, ne_eqb b 106 j, ne_eqb b 109 m, ne_eqb b 97 a, ne_eqb b 102 f, ne_eqb b 115 g, ne_eqb b 111 o, ne_eqb b 110 n, ne_eqb b 100 d)
 
-pub ruleset month_names = (no_word, no_text, other_letter, month_at, month_none, rules)
+pub ruleset month_names = (no_word, no_text, other_letter, rules)

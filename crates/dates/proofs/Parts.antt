@@ -9,8 +9,11 @@ use lib.Dec.{ltb, eqb}
 use lib.ListN.{length, get_or, take, drop, length-drop}
 use lib.Seq.{slice, length-take-le, take-suc, drop-cons, take-take, take-add, drop-drop, drop_at, drop-append-le}
 use borrow.Author.Tests.{ltb-true, eqb-true}
-use Rattle.primitive.specs.Answer.{Answer, matched, none, if}
-use Rattle.primitive.specs.Text.{run, past, some, starts, tag, byte}
+use Rattle.std.specs.Prelude.{Option, Some, None, unwrap_or}
+use Rattle.primitive.specs.Answer.{Answer, matched, none, if, place_answer}
+use Rattle.primitive.specs.Text.{letter, run, past, some, starts, tag, byte}
+use Rattle.primitive.specs.Primitive.{alpha1}
+use Rattle.dates.specs.Date.{word_dot}
 use Rattle.primitive.proofs.Forward.{run_le}
 
 -- a run that was read is no empty one, and lies within the text
@@ -91,3 +94,17 @@ part_and_byte b text at end n h = by (drop end text) refl
         clash : ◌≡◌ {A = ℕ} 0 1 → ⊥
         clash z = omega arith
     by (x ∷ xs) d e = found x xs d (eqb x b) refl e
+
+-- a word, and a dot that stands behind it
+module _ (text : List ℕ) (at : ℕ) where
+  pub no_word_dot : none ≡ alpha1 text at → none ≡ word_dot text at
+  unfolding word_dot
+  no_word_dot e = rw (← e)
+
+  module _ (end : ℕ) (read : matched (slice at end text) end ≡ alpha1 text at) where
+    pub word_and_dot : (r : Option ℕ) → place_answer r ≡ byte 46 text end → (n : ℕ) → n ≡ unwrap_or r end → matched (slice at n text) n ≡ word_dot text at
+    unfolding word_dot alpha1
+    word_and_dot None dot n e = rw (← read, ← dot, e)
+    word_and_dot (Some m) dot n e =
+        let inside = run_ends letter text at end (slice at end text) (sym read) in
+        rw (← read, ← dot, e) (ap (λ (w : List ℕ). matched w m) (part_and_byte 46 text at end m (omega (arith, inside)) (sym dot)))

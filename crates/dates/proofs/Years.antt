@@ -1,13 +1,13 @@
 -- Laws of digits as years: how many there are, and that widening makes no year smaller. Assumes nothing.
 use Prim.Native.Nat.{ℕ, ◌+◌, ◌-◌, ◌<◌, ◌≤◌, min}
-use mathlib.Core.Path.{◌≡◌, refl, ap, ◌∙◌}
+use mathlib.Core.Path.{◌≡◌, refl, sym, ap, ◌∙◌}
 use mathlib.Core.Bool.{Bool, true, false}
 use mathlib.Core.List.{List}
 use native.Mathlib.Omega.{arith}
 use lib.Dec.{leb, eqb}
 use lib.ListN.{length, take, length-take, length-drop}
 use lib.Seq.{slice}
-use borrow.Author.Tests.{leb-true, leb-false}
+use borrow.Author.Tests.{leb-true, leb-false, le-leb, lt-leb}
 use Rattle.primitive.specs.Answer.{matched, none, if, verify}
 use Rattle.primitive.specs.Text.{lowered}
 use Rattle.primitive.specs.Primitive.{decimal, parse_uint}
@@ -44,6 +44,27 @@ module _ (max : ℕ) (w text : List ℕ) (at : ℕ) where
       by : (t : Bool) → leb (decimal w) max ≡ t → matched v n ≡ if t (matched (decimal w) at) none → (v ≡ decimal w) × (decimal w ≤ max)
       by true p e = (cc, leb-true (decimal w) max p)
       by false p e = let z : ◌≡◌ {A = ℕ} 0 1 = cc in (omega arith, omega arith)
+
+-- the year that digits write, by the number that was parsed of them and their count
+module _ (w text : List ℕ) (at : ℕ) where
+  pub year_too_long : none ≡ parse_uint 4294967295 w text at → none ≡ year_from_str w text at
+  unfolding year_from_str
+  year_too_long e =
+      let long = parsed_none 4294967295 w text at e in
+      let wider = widened_up (length w) (decimal w) in
+      rw (lt-leb (widened_by (length w) (decimal w)) 2147485547 (omega arith))
+
+  module _ (v n : ℕ) (e : matched v n ≡ parse_uint 4294967295 w text at) (count : ℕ) (k : count ≡ length w) (y : ℕ) (f : y ≡ widened_by count v) where
+    widened_is : widened_by (length w) (decimal w) ≡ y
+    widened_is = let p = (parsed_is 4294967295 w text at v n e).0 in rw (← p, ← k) (sym f)
+
+    pub year_over : 2147485547 < y → none ≡ year_from_str w text at
+    unfolding year_from_str
+    year_over h = rw (widened_is, lt-leb y 2147485547 h)
+
+    pub year_within : y ≤ 2147485547 → matched y at ≡ year_from_str w text at
+    unfolding year_from_str
+    year_within h = rw (widened_is, le-leb y 2147485547 h)
 
 -- a test reads nothing, so its answer is the same at every place
 module _ {A : Type 0} (v y : A) (text : List ℕ) (at at' n : ℕ) where

@@ -1,5 +1,5 @@
 -- Calendar dates, as in items/date.rs and section 29.2 of the manual. No reader of dates stops.
-use Rattle.std.specs.Prelude.{ℕ, ◌-◌, List, [], ◌∷◌, ◌++◌, Bool, ◌&&◌, length, get_or, take, drop, ltb, leb}
+use Rattle.std.specs.Prelude.{ℕ, ◌-◌, List, [], ◌∷◌, ◌++◌, Bool, ◌&&◌, length, take, drop, leb, Option, Some, None}
 use Prim.Native.String.{String}
 use Rattle.std.proofs.Math.Seq.{slice}
 use Rattle.extended.specs.Calendar.{month_days}
@@ -7,15 +7,9 @@ use Rattle.primitive.specs.Answer.{Answer, Reader, matched, none, if, and_then, 
 use Rattle.primitive.specs.Text.{char}
 use Rattle.primitive.specs.Primitive.{multispace1, spaced, parse_uint, dec_uint_str, dec_uint, alpha1, named}
 use Rattle.dates.specs.Year.{year_from_str, year_str}
-use Rattle.dates.specs.declared.date.DateYear.{DateYear}
-use Rattle.dates.specs.declared.date.DateYear.TheVariants.{Given, Absent}
 use Rattle.dates.specs.declared.date.Date.{Date}
-use Rattle.dates.specs.declared.date.ReadDate.{ReadDate}
-use Rattle.dates.specs.declared.date.ReadDate.TheVariants as got
-use Rattle.dates.specs.declared.date.ReadYear.{ReadYear}
-use Rattle.dates.specs.declared.date.ReadYear.TheVariants as year
 
-abbrev pub date_of : DateYear → ℕ → ℕ → Date
+abbrev pub date_of : Option ℕ → ℕ → ℕ → Date
 date_of y m d = record { day = d; month = m; year = y }
 
 -- whether the month of that year has the day; a month outside 1 to 12 has none
@@ -25,11 +19,11 @@ exists y m d = leb 1 d && leb d (month_days y m)
 unfoldable pub with_year : List ℕ → ℕ → ℕ → Reader Date
 with_year w m d = do
   y ← year_from_str w
-  verify (exists y m d) (date_of (Given y) m d)
+  verify (exists y m d) (date_of (Some y) m d)
 
 -- "A date without year may be 29 February; the base year judges it later": 2000 is a leap year
 unfoldable pub without_year : ℕ → ℕ → Reader Date
-without_year m d = verify (exists 2000 m d) (date_of Absent m d)
+without_year m d = verify (exists 2000 m d) (date_of None m d)
 
 -- the digits of a year, where there is one
 pub data Written : Type 0 where
@@ -186,18 +180,10 @@ unfoldable pub parse_non_iso : Reader Date
 parse_non_iso = dotted <|> (us <|> literal)
 
 -- ---- the code's answers
-abbrev pub date_answer : ReadDate → Answer Date
-date_answer (got.Match v n) = matched v n
-date_answer got.NoMatch = none
-
 -- a year that may be absent: from one place up to another, and the place behind
-abbrev pub year_answer : List ℕ → ℕ → ReadYear → Answer Written
-year_answer text at (year.From from to next) = matched (written (slice from to text)) next
-year_answer text at year.Unwritten = matched unwritten at
-
--- the month at an index of a row of months
-abbrev pub month_in : ℕ → List ℕ → ℕ → Answer ℕ
-month_in k ms at = if (ltb k (length ms)) (matched (get_or ms k 0) at) none
+abbrev pub year_answer : List ℕ → ℕ → Option (ℕ × ℕ × ℕ) → Answer Written
+year_answer text at (Some y) = matched (written (slice y.0 y.1 text)) y.2
+year_answer text at None = matched unwritten at
 
 -- the date of an answered year
 unfoldable pub written_at : Answer Written → ℕ → ℕ → List ℕ → Answer Date

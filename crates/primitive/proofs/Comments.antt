@@ -11,11 +11,9 @@ use lib.Seq.{drop-drop}
 use lib.Dec.{eqb}
 use Rattle.primitive.specs.Answer.{Answer, matched, none, if, and_then}
 use Rattle.primitive.specs.Text.{lower, lowered, starts, tag}
-use Rattle.primitive.specs.Primitive.{closing, inside, comment, Nested, empty, other, inner, place_answer}
-use Rattle.primitive.specs.declared.ReadPlace.{ReadPlace}
-use Rattle.primitive.specs.declared.ReadPlace.TheVariants as place
+use Rattle.primitive.specs.Primitive.{closing, inside, comment, Nested, empty, other, inner}
 use Rattle.primitive.proofs.Lowered.{rest_cons, rest_none}
-use Rattle.primitive.proofs.Chain.{place_match, place_none}
+use Rattle.primitive.proofs.Chain.{then_matched, then_none}
 
 -- e + d + 1, by steps that compute
 deeper : ℕ → ℕ → ℕ
@@ -120,12 +118,12 @@ module _ (s : List ℕ) (i start : ℕ) (inv : inside (lowered s) i ≡ inside (
     pub inside_next : (b ≡ 41 → ⊥) → (b ≡ 40 → ⊥) → inside (lowered s) (i + 1) ≡ inside (lowered s) start
     inside_next f g = sym (inside_other s i h b e f g) ∙ inv
 
-    module _ (f : b ≡ 40) (r : ReadPlace) (g : place_answer r ≡ comment (lowered s) i) where
-      pub inside_inner : (n : ℕ) → r ≡ place.Match n → inside (lowered s) n ≡ inside (lowered s) start
-      inside_inner n k = place_match (comment (lowered s) i) r g (λ v n. inside (lowered s) n) n (inside (lowered s) n) k refl ∙ (sym (inside_open s i h b e f) ∙ inv)
+    module _ (f : b ≡ 40) where
+      pub inside_inner : (n : ℕ) → matched tt n ≡ comment (lowered s) i → inside (lowered s) n ≡ inside (lowered s) start
+      inside_inner n k = then_matched (λ v n. inside (lowered s) n) (comment (lowered s) i) tt n (inside (lowered s) n) (sym k) refl ∙ (sym (inside_open s i h b e f) ∙ inv)
 
-      pub inside_unclosed : r ≡ place.NoMatch → none ≡ inside (lowered s) start
-      inside_unclosed k = place_none (comment (lowered s) i) r g (λ v n. inside (lowered s) n) k ∙ (sym (inside_open s i h b e f) ∙ inv)
+      pub inside_unclosed : none ≡ comment (lowered s) i → none ≡ inside (lowered s) start
+      inside_unclosed k = then_none (λ v n. inside (lowered s) n) (comment (lowered s) i) (sym k) ∙ (sym (inside_open s i h b e f) ∙ inv)
 
 -- ---- a text that is properly nested, between parentheses
 

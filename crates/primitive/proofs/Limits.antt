@@ -16,16 +16,10 @@ use lib.IntN.{ℤ, neg_ℤ}
 use lib.Signed.{mag}
 use Rattle.primitive.specs.Answer.{Answer, matched, none, stop, if, and_then, or_else}
 use Rattle.primitive.specs.Text.{bytes, lowered, digit, letter, run, past, some}
-use Rattle.primitive.specs.Primitive.{space, sign, decimal, dec_uint, dec_uint_str, alpha1, same, named, slice_answer}
-use Rattle.primitive.specs.Epoch.{padded, nanoseconds, point_or_comma, fraction, sec_and_nsec, sec_and_nsec_answer}
-use Rattle.primitive.specs.Ordinal.{signed, ordinals, text_ordinal, signed_number, number_ordinal, ordinal, i32_answer}
-use Rattle.primitive.specs.declared.ReadPlace.{ReadPlace}
-use Rattle.primitive.specs.declared.ReadPlace.TheVariants as place
-use Rattle.primitive.specs.declared.ReadI32.{ReadI32}
-use Rattle.primitive.specs.declared.ReadI32.TheVariants as i32
+use Rattle.primitive.specs.Primitive.{space, sign, decimal, dec_uint, dec_uint_str, alpha1, same, named}
+use Rattle.primitive.specs.Epoch.{padded, nanoseconds, point_or_comma, fraction, sec_and_nsec}
+use Rattle.primitive.specs.Ordinal.{signed, ordinals, text_ordinal, signed_number, number_ordinal, ordinal}
 use Rattle.primitive.specs.declared.SecAndNsec.{SecAndNsec}
-use Rattle.primitive.specs.declared.ReadSecAndNsec.{ReadSecAndNsec}
-use Rattle.primitive.specs.declared.ReadSecAndNsec.TheVariants as seconds
 use Rattle.primitive.proofs.Forward.{run_le}
 use Rattle.primitive.proofs.Lowered.{length_lowered}
 use Rattle.primitive.proofs.Numbers.{number_limit}
@@ -125,8 +119,8 @@ nsec_below text at n v = go (dec_uint 18446744073709551615 text at)
     go none f = let z : ◌≡◌ {A = ℕ} 0 1 = cc in absurd (clash z)
     go stop f = let z : ◌≡◌ {A = ℕ} 0 1 = cc in absurd (clash z)
 
-pub nsec_limit : (text : List ℕ) (at n : ℕ) (v : SecAndNsec) (r : ReadSecAndNsec) → sec_and_nsec_answer r ≡ sec_and_nsec text at → r ≡ seconds.Match v n → v.nsec < 1000000000
-nsec_limit text at n v r e k = nsec_below text at n v (sym e ∙ ap sec_and_nsec_answer k)
+pub nsec_limit : (text : List ℕ) (at n : ℕ) (v : SecAndNsec) → matched v n ≡ sec_and_nsec text at → v.nsec < 1000000000
+nsec_limit text at n v e = nsec_below text at n v (sym e)
 
 -- ---- ordinals
 
@@ -195,15 +189,15 @@ ordinal_within text at n v = go (text_ordinal text at) refl
     go stop f e = let z : ◌≡◌ {A = ℕ} 0 1 = cc in absurd (clash z)
 
 -- an ordinal that was read lies between -2147483647 and 2147483647, so that its negative is an i32 too
-pub ordinal_range : (text : List ℕ) (at n : ℕ) (v : ℤ) (r : ReadI32) → i32_answer r ≡ ordinal text at → r ≡ i32.Match v n → mag (neg_ℤ v) < 2 ^ 31
-ordinal_range text at n v r e k = ordinal_within text at n v (sym e ∙ ap i32_answer k)
+pub ordinal_range : (text : List ℕ) (at n : ℕ) (v : ℤ) → matched v n ≡ ordinal text at → mag (neg_ℤ v) < 2 ^ 31
+ordinal_range text at n v e = ordinal_within text at n v (sym e)
 
 -- ---- words and digits
 
 -- a run that was read has a byte and lies within the text
-some_ends : (p : ℕ → Bool) (s : List ℕ) (at n : ℕ) → (a : Answer (List ℕ)) → a ≡ some p (lowered s) at → a ≡ matched (slice at n (lowered s)) n → (at < n) × (n ≤ length s)
+some_ends : (p : ℕ → Bool) (s : List ℕ) (at n : ℕ) → matched (slice at n (lowered s)) n ≡ some p (lowered s) at → (at < n) × (n ≤ length s)
 unfolding some past
-some_ends p s at n a e k = go (ltb at (at + run p (drop at (lowered s)))) refl (sym k ∙ e)
+some_ends p s at n e = go (ltb at (at + run p (drop at (lowered s)))) refl e
   where
     go : (t : Bool) → ltb at (at + run p (drop at (lowered s))) ≡ t
         → matched (slice at n (lowered s)) n ≡ if t (matched (slice at (at + run p (drop at (lowered s))) (lowered s)) (at + run p (drop at (lowered s)))) none
@@ -217,26 +211,26 @@ some_ends p s at n a e k = go (ltb at (at + run p (drop at (lowered s)))) refl (
         (omega arith, omega arith)
     go false h f = let z : ◌≡◌ {A = ℕ} 0 1 = cc in absurd (clash z)
 
-module _ (s : List ℕ) (at n : ℕ) (r : ReadPlace) (k : r ≡ place.Match n) where
-  module _ (e : slice_answer (lowered s) at r ≡ alpha1 (lowered s) at) where
+module _ (s : List ℕ) (at n : ℕ) where
+  module _ (e : matched (slice at n (lowered s)) n ≡ alpha1 (lowered s) at) where
     pub word_longer : at < n
     unfolding alpha1
-    word_longer = (some_ends letter s at n (slice_answer (lowered s) at r) e (ap (slice_answer (lowered s) at) k)).0
+    word_longer = (some_ends letter s at n e).0
 
     pub word_inside : n ≤ length s
     unfolding alpha1
-    word_inside = (some_ends letter s at n (slice_answer (lowered s) at r) e (ap (slice_answer (lowered s) at) k)).1
+    word_inside = (some_ends letter s at n e).1
 
-  module _ (e : slice_answer (lowered s) at r ≡ dec_uint_str (lowered s) at) where
+  module _ (e : matched (slice at n (lowered s)) n ≡ dec_uint_str (lowered s) at) where
     pub digits_later : at ≤ n
     unfolding dec_uint_str
-    digits_later = let h = some_ends digit s at n (slice_answer (lowered s) at r) e (ap (slice_answer (lowered s) at) k) in let l = h.0 in omega arith
+    digits_later = let h = some_ends digit s at n e in let l = h.0 in omega arith
 
     -- as many as the places that they take
     pub digits_length : length (slice at n (lowered s)) ≡ n - at
     unfolding dec_uint_str
     digits_length =
-        let h = some_ends digit s at n (slice_answer (lowered s) at r) e (ap (slice_answer (lowered s) at) k) in
+        let h = some_ends digit s at n e in
         let l = h.1 in
         let m = length_lowered s in
         simp (length-drop, length-take) (omega arith)

@@ -1,8 +1,7 @@
 -- The laws of lower case: a byte lowered as it is read is the byte of the lowered text. Assumes nothing.
 use Prim.Native.Nat.{ℕ, zero, suc, ◌+◌, ◌<◌, ◌≤◌}
 use native.Mathlib.Numerals.{add-one}
-use borrow.Author.Rules.{rules}
-use mathlib.Core.Path.{◌≡◌, refl, ap, ◌∙◌}
+use mathlib.Core.Path.{◌≡◌, refl, ap}
 use mathlib.Core.List.{List, [], ◌∷◌}
 use mathlib.Core.Bool.{Bool, true, false, ◌&&◌, ◌||◌}
 use lib.Dec.{leb, eqb}
@@ -11,7 +10,7 @@ use Rattle.primitive.specs.Answer.{if}
 use native.Mathlib.Omega.{arith}
 use lib.ListN.{length, get_or, take, drop, drop_of_length-le, length-take}
 use lib.Seq.{slice, drop-cons, get_or-take}
-use Rattle.primitive.specs.Text.{lower, lowered, blank, digit, letter}
+use Rattle.primitive.specs.Text.{lower, lowered, blank, digit}
 
 pub length_lowered : (s : List ℕ) → length (lowered s) ≡ length s
 unfolding lowered
@@ -65,26 +64,6 @@ digit_lower = unlowered digit (λ b e g. let h = leb-true 65 b e in rw (lt-leb (
 
 pub clash : ◌≡◌ {A = ℕ} 0 1 → ⊥
 clash z = omega arith
-
--- a letter, small or capital
-module _ (b : ℕ) (t : Bool) where
-  pub small_letter : 97 ≤ b → t ≡ leb b 122 → t ≡ letter (lower b)
-  unfolding letter lower
-  small_letter h e = rw (lt-leb b 90 (omega arith), le-leb 65 b (omega arith), le-leb 97 b h) e
-
-  pub capital : b < 97 → 65 ≤ b → t ≡ leb b 90 → t ≡ letter (lower b)
-  unfolding letter lower
-  capital g h e = e ∙ go (leb b 90) refl
-    where
-      go : (u : Bool) → leb b 90 ≡ u → u ≡ (leb 97 (if (leb 65 b && u) (b + 32) b) && leb (if (leb 65 b && u) (b + 32) b) 122)
-      go true f = let k = leb-true b 90 f in rw (le-leb 65 b h, le-leb 97 (b + 32) (omega arith), le-leb (b + 32) 122 (omega arith))
-      go false f = rw (le-leb 65 b h, lt-leb 97 b g)
-
-pub no_letter : (b : ℕ) → b < 65 → false ≡ letter (lower b)
-unfolding letter lower
-no_letter b h = rw (lt-leb 65 b h, lt-leb 97 b (omega arith))
-
-pub ruleset letters_tests = (small_letter, capital, no_letter, rules)
 
 -- a digit is its own lower case
 pub digit_same : (b : ℕ) → digit b ≡ true → b ≡ lower b

@@ -4,17 +4,15 @@ use borrow.Author.Tests.{leb-true, ltb-true}
 use native.Mathlib.Omega.{arith}
 use Prim.Native.Nat.{ℕ, zero, suc, ◌≤◌, ◌<◌, ◌^◌}
 use native.Mathlib.Nat.{lt_of_le_of_lt}
-use mathlib.Core.Path.{◌≡◌, refl, sym, ap, ◌∙◌}
+use mathlib.Core.Path.{◌≡◌, refl, sym}
 use mathlib.Core.List.{List}
 use mathlib.Core.Bool.{Bool, true, false}
 use lib.Dec.{ltb, leb}
 use mir.Syntax.{Width, w32}
 use mir.Val.{Fits, SFits, bits}
 use Rattle.primitive.specs.Answer.{Answer, matched, none, stop, if, and_then}
-use Rattle.primitive.specs.Primitive.{decimal, parse_uint, dec_uint_str, dec_uint, u64_answer}
+use Rattle.primitive.specs.Primitive.{decimal, parse_uint, dec_uint_str, dec_uint}
 use Rattle.primitive.specs.Ordinal.{signed}
-use Rattle.primitive.specs.declared.ReadU64.{ReadU64}
-use Rattle.primitive.specs.declared.ReadU64.TheVariants as u64
 use Rattle.primitive.proofs.Chain.{chain}
 
 -- a number that was read is at most its limit
@@ -36,12 +34,12 @@ number_limit max text at v n = go (dec_uint_str text at)
     go stop e = let z : ◌≡◌ {A = ℕ} 0 1 = cc in omega arith
 
 -- one law for every width
-module _ (v n max at : ℕ) (r : ReadU64) (text : List ℕ) (k : r ≡ u64.Match v n) (e : u64_answer r ≡ dec_uint max text at) where
+module _ (v n max at : ℕ) (text : List ℕ) (e : matched v n ≡ dec_uint max text at) where
   pub number_fits : (w : Width) → ltb max (2 ^ bits w) ≡ true → Fits w v
-  number_fits w h = record { fits = lt_of_le_of_lt (number_limit max text at v n (sym e ∙ ap u64_answer k)) (ltb-true max (2 ^ bits w) h) }
+  number_fits w h = record { fits = lt_of_le_of_lt (number_limit max text at v n (sym e)) (ltb-true max (2 ^ bits w) h) }
 
   pub number_below : (b : ℕ) → ltb max b ≡ true → v < b
-  number_below b h = lt_of_le_of_lt (number_limit max text at v n (sym e ∙ ap u64_answer k)) (ltb-true max b h)
+  number_below b h = lt_of_le_of_lt (number_limit max text at v n (sym e)) (ltb-true max b h)
 
 -- below 2 to the power 31 a number fits an i32 with either sign
 pub signed_fits : (negative : Bool) (n : ℕ) → n < 2147483648 → SFits w32 (signed negative n)

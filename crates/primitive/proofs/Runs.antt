@@ -10,8 +10,8 @@ use mathlib.Core.Bool.{Bool, true, false}
 use lib.ListN.{length, get_or}
 use lib.Seq.{slice}
 use Rattle.primitive.specs.Answer.{matched, none}
-use Rattle.primitive.specs.Text.{lower, lowered, blank, digit, letter, run, past, some}
-use Rattle.primitive.proofs.Lowered.{rest_cons, rest_none, digit_lower, blank_lower}
+use Rattle.primitive.specs.Text.{lower, lowered, digit, run, past, some}
+use Rattle.primitive.proofs.Lowered.{rest_cons, rest_none, digit_lower}
 
 module _ (p : ℕ → Bool) (s : List ℕ) (i : ℕ) where
   pub past_end : length s ≤ i → past p (lowered s) i ≡ i
@@ -39,36 +39,13 @@ module _ (p : ℕ → Bool) (s : List ℕ) (i at : ℕ) (inv : past p (lowered s
     pub past_next : t ≡ true → past p (lowered s) (i + 1) ≡ past p (lowered s) at
     past_next g = cc (past_more p s i h b e (cc))
 
--- The same where the byte is asked before it is lowered, which for a blank and a digit is all one.
-module _ (p : ℕ → Bool) (q : (b : ℕ) → p (lower b) ≡ p b) (s : List ℕ) (i at : ℕ) (inv : past p (lowered s) i ≡ past p (lowered s) at) (h : i < length s) (t : Bool) (f : t ≡ p (get_or s i 0)) where
-  past_found_raw : t ≡ false → i ≡ past p (lowered s) at
-  past_found_raw = past_found p s i at inv h (lower (get_or s i 0)) refl t (f ∙ sym (q (get_or s i 0)))
+-- The same for digits, where the byte is asked before it is lowered, which is all one.
+module _ (s : List ℕ) (i at : ℕ) (inv : past digit (lowered s) i ≡ past digit (lowered s) at) (h : i < length s) (t : Bool) (f : t ≡ digit (get_or s i 0)) where
+  pub digits_found : t ≡ false → i ≡ past digit (lowered s) at
+  digits_found = past_found digit s i at inv h (lower (get_or s i 0)) refl t (f ∙ sym (digit_lower (get_or s i 0)))
 
-  past_next_raw : t ≡ true → past p (lowered s) (i + 1) ≡ past p (lowered s) at
-  past_next_raw = past_next p s i at inv h (lower (get_or s i 0)) refl t (f ∙ sym (q (get_or s i 0)))
-
-module _ (s : List ℕ) (i at : ℕ) where
-  module _ (inv : past digit (lowered s) i ≡ past digit (lowered s) at) (h : i < length s) (t : Bool) (f : t ≡ digit (get_or s i 0)) where
-    pub digits_found : t ≡ false → i ≡ past digit (lowered s) at
-    digits_found = past_found_raw digit digit_lower s i at inv h t f
-
-    pub digits_next : t ≡ true → past digit (lowered s) (i + 1) ≡ past digit (lowered s) at
-    digits_next = past_next_raw digit digit_lower s i at inv h t f
-
-  module _ (inv : past blank (lowered s) i ≡ past blank (lowered s) at) (h : i < length s) (t : Bool) (f : t ≡ blank (get_or s i 0)) where
-    pub blanks_found : t ≡ false → i ≡ past blank (lowered s) at
-    blanks_found = past_found_raw blank blank_lower s i at inv h t f
-
-    pub blanks_next : t ≡ true → past blank (lowered s) (i + 1) ≡ past blank (lowered s) at
-    blanks_next = past_next_raw blank blank_lower s i at inv h t f
-
--- The same for letters, where the byte is asked for its lower case.
-module _ (s : List ℕ) (i at : ℕ) (inv : past letter (lowered s) i ≡ past letter (lowered s) at) (h : i < length s) (t : Bool) (f : t ≡ letter (lower (get_or s i 0))) where
-  pub letters_found : t ≡ false → i ≡ past letter (lowered s) at
-  letters_found = past_found letter s i at inv h (lower (get_or s i 0)) refl t f
-
-  pub letters_next : t ≡ true → past letter (lowered s) (i + 1) ≡ past letter (lowered s) at
-  letters_next = past_next letter s i at inv h (lower (get_or s i 0)) refl t f
+  pub digits_next : t ≡ true → past digit (lowered s) (i + 1) ≡ past digit (lowered s) at
+  digits_next = past_next digit s i at inv h (lower (get_or s i 0)) refl t (f ∙ sym (digit_lower (get_or s i 0)))
 
 -- A run of one byte or more.
 module _ (p : ℕ → Bool) (text : List ℕ) (at end : ℕ) (e : end ≡ past p text at) where
@@ -80,4 +57,4 @@ module _ (p : ℕ → Bool) (text : List ℕ) (at end : ℕ) (e : end ≡ past p
   unfolding some
   some_none h = rw (← e, le-ltb at end h)
 
-pub ruleset runs = (past_done, past_found, past_next, digits_found, digits_next, blanks_found, blanks_next, letters_found, letters_next, some_match, some_none, rules)
+pub ruleset runs = (past_done, past_found, past_next, rules)

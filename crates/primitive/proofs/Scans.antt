@@ -2,22 +2,21 @@
 use borrow.Author.Tests.{lt-ltb, leb-true, le-leb}
 use native.Mathlib.Omega.{arith}
 use Prim.Native.Nat.{ℕ, ◌+◌, ◌*◌, ◌-◌, ◌<◌, ◌≤◌}
-use mathlib.Core.Path.{◌≡◌, refl, sym, ap, ◌∙◌}
+use mathlib.Core.Path.{◌≡◌, refl, sym, ◌∙◌}
 use mathlib.Core.List.{List}
 use mathlib.Core.Bool.{Bool, true, false, ◌&&◌}
 use lib.ListN.{length, get_or}
 use lib.Seq.{slice}
 use lib.Dec.{ltb, leb}
-use Rattle.primitive.specs.Answer.{Answer, matched, none, stop, if, and_then}
+use Rattle.primitive.specs.Answer.{Answer, matched, none, stop, if, and_then, answer_of}
 use Rattle.primitive.specs.Text.{lower, lowered, digit, past, some}
-use Rattle.primitive.specs.Primitive.{decimal, parse_uint, dec_uint_str, dec_uint, u64_answer}
-use Rattle.primitive.specs.declared.ReadU64.{ReadU64}
-use Rattle.primitive.specs.declared.ReadU64.TheVariants as u64
+use Rattle.primitive.specs.Primitive.{decimal, parse_uint, dec_uint_str, dec_uint}
 use Rattle.primitive.proofs.Lowered.{clash, digit_same}
 use Rattle.primitive.proofs.Runs.{past_done, digits_found, digits_next}
 use Rattle.primitive.proofs.Forward.{past_onward}
 use Rattle.primitive.proofs.Values.{grown_from, grown_start, parse_done, parse_next, over}
 use Rattle.primitive.proofs.Chain.{chain}
+use Rattle.std.specs.Prelude.{Option}
 
 -- `acc` with the digits from i on behind it has the value of all the digits at `at`
 pub scanned : ℕ → List ℕ → ℕ → ℕ → Type 0
@@ -29,8 +28,8 @@ unfolding scanned
 scan_start s at = (omega arith, refl, grown_start s at (past digit (lowered s) at))
 
 module _ (s : List ℕ) (at max acc i : ℕ) (inv : scanned acc s i at) where
-  module _ (m : acc ≤ max) (r : ReadU64) (e : u64_answer r ≡ if (ltb at i) (matched acc i) none) where
-    ended : i ≡ past digit (lowered s) at → u64_answer r ≡ dec_uint max (lowered s) at
+  module _ (m : acc ≤ max) (r : Option (ℕ × ℕ)) (e : answer_of r ≡ if (ltb at i) (matched acc i) none) where
+    ended : i ≡ past digit (lowered s) at → answer_of r ≡ dec_uint max (lowered s) at
     unfolding scanned dec_uint dec_uint_str some
     ended k = rw (← k) (e ∙ go (ltb at i))
       where
@@ -38,11 +37,11 @@ module _ (s : List ℕ) (at max acc i : ℕ) (inv : scanned acc s i at) where
         go true = parse_done s acc i i (slice at i (lowered s)) (rw (← k) at inv.2) max i (omega arith) m
         go false = refl
 
-    pub scan_end : length s ≤ i → u64_answer r ≡ dec_uint max (lowered s) at
+    pub scan_end : length s ≤ i → answer_of r ≡ dec_uint max (lowered s) at
     unfolding scanned
     scan_end h = ended (past_done digit s i at inv.1 h)
 
-    pub scan_found : i < length s → (t : Bool) → t ≡ digit (get_or s i 0) → t ≡ false → u64_answer r ≡ dec_uint max (lowered s) at
+    pub scan_found : i < length s → (t : Bool) → t ≡ digit (get_or s i 0) → t ≡ false → answer_of r ≡ dec_uint max (lowered s) at
     unfolding scanned
     scan_found h t f g = ended (digits_found s i at inv.1 h t f g)
 
@@ -82,7 +81,7 @@ digit_worth b d t f g e = go (leb 48 b) (leb b 57) refl (sym f ∙ g)
     go false v h k = let z : ◌≡◌ {A = ℕ} 0 1 = cc in absurd (clash z)
 
 -- a number below one limit is below each that is larger
-module _ (text : List ℕ) (at v n : ℕ) (r : ReadU64) (k : r ≡ u64.Match v n) (max more : ℕ) (h : leb max more ≡ true) where
+module _ (text : List ℕ) (at v n : ℕ) (max more : ℕ) (h : leb max more ≡ true) where
   wide : (w : List ℕ) (m : ℕ) → matched v n ≡ parse_uint max w text m → matched v n ≡ parse_uint more w text m
   unfolding parse_uint
   wide w m = go (leb (decimal w) max) refl
@@ -91,9 +90,9 @@ module _ (text : List ℕ) (at v n : ℕ) (r : ReadU64) (k : r ≡ u64.Match v n
       go true e f = let z = leb-true (decimal w) max e in let y = leb-true max more h in rw (le-leb (decimal w) more (omega arith)) f
       go false e f = let z : ◌≡◌ {A = ℕ} 0 1 = cc in absurd (clash z)
 
-  pub wider : u64_answer r ≡ dec_uint max text at → matched v n ≡ dec_uint more text at
+  pub wider : matched v n ≡ dec_uint max text at → matched v n ≡ dec_uint more text at
   unfolding dec_uint
-  wider e = go (dec_uint_str text at) (sym (ap u64_answer k) ∙ e)
+  wider e = go (dec_uint_str text at) e
     where
       go : (a : Answer (List ℕ)) → matched v n ≡ and_then a (λ w m. parse_uint max w text m) → matched v n ≡ and_then a (λ w m. parse_uint more w text m)
       go (matched w m) f = wide w m f

@@ -1,23 +1,21 @@
 -- The laws of the space between tokens: for the loop that skips it, and that any limit from the text's length on gives the same
 -- place. Assumes nothing.
 use native.Mathlib.Omega.{arith}
-use borrow.Author.Tests.{eqb-true, le-leb, lt-leb, ne_eqb}
+use borrow.Author.Tests.{le-leb, lt-leb, ne_eqb}
 use Prim.Native.Nat.{ℕ, zero, suc, ◌+◌, ◌-◌, ◌<◌, ◌≤◌}
 use mathlib.Core.Path.{◌≡◌, refl, sym, ap, ◌∙◌}
 use mathlib.Core.List.{List, [], ◌∷◌}
-use mathlib.Core.Bool.{Bool, true, false, ◌&&◌}
-use lib.Dec.{eqb}
-use lib.ListN.{length, get_or, drop, drop_of_length-le, get_or-eq_default}
-use Rattle.primitive.specs.Answer.{Answer, matched, none, stop, if, and_then, or_else}
+use mathlib.Core.Bool.{Bool, true, false}
+use lib.ListN.{length, get_or, drop_of_length-le, get_or-eq_default}
+use Rattle.primitive.specs.Answer.{Answer, matched, none, stop, and_then, or_else, place_answer}
 use Rattle.primitive.specs.Text.{lower, lowered, blank, digit, past, starts, tag}
-use Rattle.primitive.specs.Primitive.{multispace0, inside, comment, no_digit, sign, ignored_hyphen_or_plus, ignored, behind, skip, space, place_answer}
-use Rattle.primitive.specs.declared.ReadPlace.{ReadPlace}
-use Rattle.primitive.specs.declared.ReadPlace.TheVariants as place
+use Rattle.primitive.specs.Primitive.{multispace0, inside, comment, no_digit, sign, ignored_hyphen_or_plus, ignored, behind, skip, space}
 use Rattle.primitive.proofs.Lowered.{length_lowered, get_or_lowered, beyond, rest_cons, clash, digit_lower, digit_no_blank, blank_lower, lower_above}
 use Rattle.primitive.proofs.Runs.{past_end, past_here, past_more}
 use Rattle.primitive.proofs.Comments.{inside_within, inside_done, inside_found, inside_next, inside_inner, inside_unclosed}
 use Rattle.primitive.proofs.Forward.{tag_ends, then_forward, multispace0_forward, no_digit_forward, past_onward}
-use Rattle.primitive.proofs.Chain.{place_then_else, chain}
+use Rattle.primitive.proofs.Chain.{chain}
+use Rattle.std.specs.Prelude.{Option, Some, None}
 
 -- ---- a comment and an ignored sign end behind their start
 
@@ -68,36 +66,6 @@ ignored_behind text at n = go (comment text at) refl
     go stop e h = let z : ◌≡◌ {A = ℕ} 0 1 = cc in omega arith
 
 -- ---- what a comment or a sign begins with
-
--- a comment begins with byte 40, which is no sign
-or_none : {A : Type 0} (p : Answer A) → or_else p none ≡ p
-or_none (matched v n) = refl
-or_none none = refl
-or_none stop = refl
-
-first_byte_40 : (bs : List ℕ) (a : Answer (Unit {0})) (n : ℕ) → if (starts (40 ∷ []) bs) a none ≡ matched tt n → (starts (43 ∷ []) bs ≡ false) × (starts (45 ∷ []) bs ≡ false)
-unfolding starts
-first_byte_40 [] a n e = (refl, refl)
-first_byte_40 (b ∷ bs) a n e = by (eqb b 40) refl e
-  where
-    by : (t : Bool) → eqb b 40 ≡ t → if (t && true) a none ≡ matched tt n → ((eqb b 43 && true) ≡ false) × ((eqb b 45 && true) ≡ false)
-    by true f e = let z = eqb-true b 40 f in (rw (ne_eqb b 43 (λ y. omega arith)), rw (ne_eqb b 45 (λ y. omega arith)))
-    by false f e = let z : ◌≡◌ {A = ℕ} 0 1 = cc in absurd (clash z)
-
-no_sign_at_40 : (text : List ℕ) (at n : ℕ) → tag (40 ∷ []) text at ≡ matched tt n → ignored_hyphen_or_plus text at ≡ none
-unfolding ignored_hyphen_or_plus sign tag
-no_sign_at_40 text at n e =
-    let z = first_byte_40 (drop at text) (matched tt (at + 1)) n e in
-    rw (z.0, z.1)
-
-module _ (text : List ℕ) (at : ℕ) (r : ReadPlace) (e : place_answer r ≡ tag (40 ∷ []) text at) (a : Answer (Unit {0})) where
-  pub no_comment : r ≡ place.NoMatch → a ≡ ignored_hyphen_or_plus text at → a ≡ ignored text at
-  unfolding ignored comment
-  no_comment k g = place_then_else _ r e (λ u n. inside text n) (ignored_hyphen_or_plus text at) a k g
-
-  pub comment_alone : (n : ℕ) → r ≡ place.Match n → a ≡ comment text at → a ≡ ignored text at
-  unfolding ignored
-  comment_alone n k g = rw (no_sign_at_40 text at n (sym e ∙ ap place_answer k), or_none (comment text at)) g
 
 -- no byte above 45 begins anything that is skipped
 module _ (s : List ℕ) (i : ℕ) (h : i < length s) (g : 45 < get_or s i 0) where
@@ -180,7 +148,7 @@ module _ (s : List ℕ) (i at : ℕ) (inv : skip_from s i ≡ space (lowered s) 
       let l = length_lowered s in
       sym (enough_from (lowered s) (length (lowered s)) 0 i (omega arith) (omega arith)) ∙ inv
 
-  module _ (h : i < length s) (r : ReadPlace) (e : place_answer r ≡ ignored (lowered s) i) where
+  module _ (h : i < length s) (r : Option ℕ) (e : place_answer r ≡ ignored (lowered s) i) where
     step : skip_from s i ≡ behind (ignored (lowered s) i) i (λ n. skip (length (lowered s) - 1) (lowered s) (past blank (lowered s) n))
     unfolding skip_from skip
     step =
@@ -188,10 +156,10 @@ module _ (s : List ℕ) (i at : ℕ) (inv : skip_from s i ≡ space (lowered s) 
         let z : length (lowered s) ≡ suc (length (lowered s) - 1) = omega arith in
         ap (λ (k : ℕ). skip k (lowered s) i) z
 
-    pub skip_stop : r ≡ place.NoMatch → i ≡ space (lowered s) at
+    pub skip_stop : r ≡ None → i ≡ space (lowered s) at
     skip_stop k = rw (sym e ∙ ap place_answer k) at (sym step) ∙ inv
 
-    module _ (n m : ℕ) (k : r ≡ place.Match n) (g : m ≡ past blank (lowered s) n) where
+    module _ (n m : ℕ) (k : r ≡ Some n) (g : m ≡ past blank (lowered s) n) where
       later : i < m
       later =
           let z = ignored_behind (lowered s) i n (sym e ∙ ap place_answer k) in
@@ -210,7 +178,7 @@ module _ (s : List ℕ) (i at : ℕ) (inv : skip_from s i ≡ space (lowered s) 
 -- a place where no space begins
 module _ (s : List ℕ) (i at : ℕ) (inv : skip_from s i ≡ space (lowered s) at) where
   pub skip_above : i < length s → 45 < get_or s i 0 → i ≡ space (lowered s) at
-  skip_above h g = skip_stop s i at inv h place.NoMatch (sym (ignored_above s i h g)) refl
+  skip_above h g = skip_stop s i at inv h None (sym (ignored_above s i h g)) refl
 
 module _ (s : List ℕ) (at : ℕ) where
   pub space_end : length s ≤ at → at ≡ space (lowered s) at
@@ -233,7 +201,7 @@ module _ (s : List ℕ) (at : ℕ) (h : at < length s) (g : at + 1 < length s) (
   sign_kept c v e p q b =
       let z = past_here blank s (at + 1) g (lower (get_or s (at + 1) 0)) refl (blank_lower (get_or s (at + 1) 0) ∙ digit_no_blank (get_or s (at + 1) 0) (sym f ∙ k)) in
       let i : ignored (lowered s) at ≡ none = rw (p, q, z) (sym (digit_there s (at + 1) t f k)) in
-      skip_stop s at at (skip_start s at at (sym (past_here blank s at h c e b))) h place.NoMatch (sym i) refl
+      skip_stop s at at (skip_start s at at (sym (past_here blank s at h c e b))) h None (sym i) refl
 
   pub hyphen_kept : get_or s at 0 ≡ 45 → at ≡ space (lowered s) at
   unfolding lower blank comment sign tag starts
@@ -255,25 +223,25 @@ module _ (s : List ℕ) (at : ℕ) (h : at < length s) (g : at + 1 < length s) (
 pub unsaid : {A : Type 0} → ◌≡◌ {A = Bool} false true → A
 unsaid e = let z : ◌≡◌ {A = ℕ} 0 1 = cc in absurd (clash z)
 
-pub skip_less : (s : List ℕ) (i n m : ℕ) (r : ReadPlace) → i < length s → place_answer r ≡ ignored (lowered s) i → r ≡ place.Match n → m ≡ past blank (lowered s) n → length s - m < length s - i
+pub skip_less : (s : List ℕ) (i n m : ℕ) (r : Option ℕ) → i < length s → place_answer r ≡ ignored (lowered s) i → r ≡ Some n → m ≡ past blank (lowered s) n → length s - m < length s - i
 skip_less s i n m r h e k g =
     let z = ignored_behind (lowered s) i n (sym e ∙ ap place_answer k) in
     let y = past_onward blank (lowered s) n in
     let x = y.0 in
     omega arith
 
-pub ruleset spaces = (blanks_then, digit_there, no_digit_there, nothing_there, no_comment, comment_alone, skip_start, skip_done, skip_above, skip_stop, skip_next, skip_less, space_end, space_above, space_blank, hyphen_at_once, chain)
+pub ruleset spaces = (blanks_then, digit_there, no_digit_there, nothing_there, skip_start, skip_done, skip_above, skip_stop, skip_next, skip_less, space_end, space_above, space_blank, hyphen_at_once, chain)
 
 -- ---- the loop of `comment`
 
-module _ (text : List ℕ) (at n : ℕ) (r : ReadPlace) (k : r ≡ place.Match n) where
-  pub byte_later : (b : ℕ) → place_answer r ≡ tag (b ∷ []) text at → at < n
-  byte_later b e = byte_after b text at n (sym e ∙ ap place_answer k)
+module _ (text : List ℕ) (at n : ℕ) where
+  pub byte_later : (b : ℕ) → matched tt n ≡ tag (b ∷ []) text at → at < n
+  byte_later b e = byte_after b text at n (sym e)
 
-  pub comment_later : (start : ℕ) → start < at → place_answer r ≡ comment text at → start < n
-  comment_later start h e = let z = comment_behind text at n (sym e ∙ ap place_answer k) in omega arith
+  pub comment_later : (start : ℕ) → start < at → matched tt n ≡ comment text at → start < n
+  comment_later start h e = let z = comment_behind text at n (sym e) in omega arith
 
-pub comment_less : (s : List ℕ) (i n : ℕ) (r : ReadPlace) → i < length s → place_answer r ≡ comment (lowered s) i → r ≡ place.Match n → length s - n < length s - i
-comment_less s i n r h e k = let z = comment_behind (lowered s) i n (sym e ∙ ap place_answer k) in omega arith
+pub comment_less : (s : List ℕ) (i n : ℕ) → i < length s → matched tt n ≡ comment (lowered s) i → length s - n < length s - i
+comment_less s i n h e = let z = comment_behind (lowered s) i n (sym e) in omega arith
 
 pub ruleset comments = (inside_done, inside_found, inside_next, inside_inner, inside_unclosed, byte_later, comment_later, comment_less, chain)

@@ -62,9 +62,9 @@ module _ (s w : List ℕ) (at i k : ℕ) (inv : starts_from w k s i ≡ starts_f
     tag_short g = rw (← inv, cons_at, rest_none s i g)
 
     module _ (g : i < length s) (b : ℕ) (e : b ≡ lower (get_or s i 0)) where
-      pub tag_next : b ≡ get_or w k 0 → starts_from w (k + 1) s (i + 1) ≡ starts_from w 0 s at
+      pub tag_next : b ≡ get_or w k 0 → (j : ℕ) → j ≡ i + 1 → starts_from w (k + 1) s j ≡ starts_from w 0 s at
       unfolding starts_from starts
-      tag_next f = rw (cons_at, rest_cons s i g b e, eq-eqb b (get_or w k 0) f) at inv
+      tag_next f j z = rw z (rw (cons_at, rest_cons s i g b e, eq-eqb b (get_or w k 0) f) at inv)
 
       pub tag_differs : (b ≡ get_or w k 0 → ⊥) → none ≡ tag w (lowered s) at
       unfolding tag starts_from starts

@@ -1,6 +1,9 @@
 -- What a reader answers, and how readers are put together. Document 01, 'Forms that must change': a reader answers a match
 -- with the next place, no match, or a stop.
-use Rattle.std.specs.Prelude.{ℕ, List, Bool, true, false}
+use Rattle.std.specs.Prelude.{ℕ, List, Bool, true, false, Option, Some, None, Result, Ok, Err}
+use Rattle.std.proofs.Math.Seq.{slice}
+use Rattle.primitive.specs.declared.Miss.{Miss}
+use Rattle.primitive.specs.declared.Miss.TheVariants.{NoMatch, Stop}
 
 -- a match with its value and the next place; no match; or a stop, which no other reader may mend
 pub data Answer (A : Type 0) : Type 0 where
@@ -57,3 +60,31 @@ optional d p = p <|> pure d
 -- nothing is read, and the value is v where a test passes; where it fails there is no match
 abbrev pub verify : {A : Type 0} → Bool → A → Reader A
 verify t v text at = if t (matched v at) none
+
+-- ---- the code's answers
+
+-- a value and where it ends
+abbrev pub answer_of : {A : Type 0} → Option (A × ℕ) → Answer A
+answer_of (Some p) = matched p.0 p.1
+answer_of None = none
+
+-- where a match ends
+abbrev pub place_answer : Option ℕ → Answer (Unit {0})
+place_answer (Some n) = matched tt n
+place_answer None = none
+
+-- an end that stands for the bytes up to it
+abbrev pub slice_answer : List ℕ → ℕ → Option ℕ → Answer (List ℕ)
+slice_answer text at (Some n) = matched (slice at n text) n
+slice_answer text at None = none
+
+-- a value that was found, for what ends at a place
+abbrev pub found_at : {A : Type 0} → ℕ → Option A → Answer A
+found_at at (Some v) = matched v at
+found_at at None = none
+
+-- a value and where it ends, where a stop can be met
+abbrev pub stop_answer : {A : Type 0} → Result (A × ℕ) Miss → Answer A
+stop_answer (Ok p) = matched p.0 p.1
+stop_answer (Err NoMatch) = none
+stop_answer (Err Stop) = stop

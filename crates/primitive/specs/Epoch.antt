@@ -1,11 +1,9 @@
 -- Seconds with a fraction, as in items/epoch.rs.
 use Rattle.std.specs.Prelude.{ℕ, zero, suc, List, [], ◌∷◌}
-use Rattle.primitive.specs.Answer.{Answer, Reader, matched, none, ◌>>=◌, ◌>>◌, ◌<|>◌, pure, optional}
+use Rattle.primitive.specs.Answer.{Reader, ◌>>=◌, ◌>>◌, ◌<|>◌, pure, optional}
 use Rattle.primitive.specs.Text.{char}
 use Rattle.primitive.specs.Primitive.{decimal, dec_uint, dec_uint_str}
 use Rattle.primitive.specs.declared.SecAndNsec.{SecAndNsec}
-use Rattle.primitive.specs.declared.ReadSecAndNsec.{ReadSecAndNsec}
-use Rattle.primitive.specs.declared.ReadSecAndNsec.TheVariants as got
 
 -- the first k digits, with zeros behind them where there are fewer
 unfoldable pub padded : ℕ → List ℕ → List ℕ
@@ -33,7 +31,3 @@ sec_and_nsec = do
   sec ← dec_uint 18446744073709551615
   nsec ← optional 0 fraction
   pure (record { sec = sec; nsec = nsec })
-
-abbrev pub sec_and_nsec_answer : ReadSecAndNsec → Answer SecAndNsec
-sec_and_nsec_answer (got.Match v n) = matched v n
-sec_and_nsec_answer got.NoMatch = none

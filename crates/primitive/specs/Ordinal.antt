@@ -1,10 +1,8 @@
 -- Ordinal numbers, in words or in digits, as in items/ordinal.rs.
 use Rattle.std.specs.Prelude.{ℕ, List, [], ◌∷◌, Bool, true, false, ℤ, pos, neg_ℤ}
 use Prim.Native.String.{String}
-use Rattle.primitive.specs.Answer.{Answer, Reader, matched, none, ◌>>=◌, ◌<|>◌, pure, optional}
+use Rattle.primitive.specs.Answer.{Reader, ◌>>=◌, ◌<|>◌, pure, optional}
 use Rattle.primitive.specs.Primitive.{spaced, sign, dec_uint, alpha1, named}
-use Rattle.primitive.specs.declared.ReadI32.{ReadI32}
-use Rattle.primitive.specs.declared.ReadI32.TheVariants as got
 
 -- a number with its sign, true for minus
 unfoldable pub signed : Bool → ℕ → ℤ
@@ -38,7 +36,3 @@ number_ordinal = do
 
 unfoldable pub ordinal : Reader ℤ
 ordinal = text_ordinal <|> number_ordinal
-
-abbrev pub i32_answer : ReadI32 → Answer ℤ
-i32_answer (got.Match v n) = matched v n
-i32_answer got.NoMatch = none

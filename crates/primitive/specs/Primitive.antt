@@ -1,20 +1,9 @@
 -- What the readers of items are made of, in the order of items/primitive.rs: the space between tokens, numbers, signs; then
--- words that stand in a table, and the code's answers.
-use Rattle.std.specs.Prelude.{ℕ, zero, suc, ◌+◌, ◌-◌, ◌*◌, ◌^◌, ◌≡◌, List, [], ◌∷◌, ◌++◌, Bool, true, false, ◌&&◌, length, get_or, drop, leb, eqb}
+-- words that stand in a table.
+use Rattle.std.specs.Prelude.{ℕ, zero, suc, ◌+◌, ◌-◌, ◌*◌, ◌^◌, ◌≡◌, List, [], ◌∷◌, ◌++◌, Bool, true, false, ◌&&◌, length, get_or, drop, leb, eqb, Option, Some, None}
 use Prim.Native.String.{String}
-use Rattle.std.proofs.Math.Seq.{slice}
 use Rattle.primitive.specs.Answer.{Answer, Reader, matched, none, stop, if, ◌>>=◌, ◌>>◌, ◌<|>◌, value, verify}
-use Rattle.primitive.specs.Text.{bytes, blank, digit, letter, past, some, char}
-use Rattle.primitive.specs.declared.ReadPlace.{ReadPlace}
-use Rattle.primitive.specs.declared.ReadPlace.TheVariants as place
-use Rattle.primitive.specs.declared.ReadSign.{ReadSign}
-use Rattle.primitive.specs.declared.ReadSign.TheVariants as Sign-read
-use Rattle.primitive.specs.declared.ReadU8.{ReadU8}
-use Rattle.primitive.specs.declared.ReadU8.TheVariants as u8
-use Rattle.primitive.specs.declared.ReadU32.{ReadU32}
-use Rattle.primitive.specs.declared.ReadU32.TheVariants as u32
-use Rattle.primitive.specs.declared.ReadU64.{ReadU64}
-use Rattle.primitive.specs.declared.ReadU64.TheVariants as u64
+use Rattle.primitive.specs.Text.{lowered, bytes, blank, digit, letter, past, some, char}
 
 -- ---- the space between tokens
 
@@ -140,6 +129,11 @@ unfoldable pub named : {A : Type 0} → List (String × A) → List ℕ → Read
 named [] w text at = none
 named (e ∷ es) w text at = if (same w (bytes e.0)) (matched e.1 at) (named es w text at)
 
+-- the value that stands beside the first word that is w, the words being seen in lower case
+unfoldable pub beside : {A : Type 0} → List (List ℕ × A) → List ℕ → Option A
+beside [] w = None
+beside (e ∷ es) w = if (same w (lowered e.0)) (Some e.1) (beside es w)
+
 -- the words of a row of bytes in which a blank stands behind each word
 abbrev pub longer : ℕ → List (List ℕ) → List (List ℕ)
 longer b [] = []
@@ -153,30 +147,3 @@ words (b ∷ bs) = if (eqb b 32) ([] ∷ words bs) (longer b (words bs))
 unfoldable pub index : List ℕ → List (List ℕ) → ℕ
 index w [] = 0
 index w (x ∷ xs) = if (same w x) 0 (suc (index w xs))
-
--- ---- the code's answers
-
-abbrev pub place_answer : ReadPlace → Answer (Unit {0})
-place_answer (place.Match n) = matched tt n
-place_answer place.NoMatch = none
-
--- an end that stands for the bytes up to it
-abbrev pub slice_answer : List ℕ → ℕ → ReadPlace → Answer (List ℕ)
-slice_answer text at (place.Match n) = matched (slice at n text) n
-slice_answer text at place.NoMatch = none
-
-abbrev pub sign_answer : ReadSign → Answer Bool
-sign_answer (Sign-read.Match v n) = matched v n
-sign_answer Sign-read.NoMatch = none
-
-abbrev pub u8_answer : ReadU8 → Answer ℕ
-u8_answer (u8.Match v n) = matched v n
-u8_answer u8.NoMatch = none
-
-abbrev pub u32_answer : ReadU32 → Answer ℕ
-u32_answer (u32.Match v n) = matched v n
-u32_answer u32.NoMatch = none
-
-abbrev pub u64_answer : ReadU64 → Answer ℕ
-u64_answer (u64.Match v n) = matched v n
-u64_answer u64.NoMatch = none

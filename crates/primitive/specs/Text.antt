@@ -1,5 +1,5 @@
 -- Bytes, lower case, and runs of bytes.
-use Rattle.std.specs.Prelude.{ℕ, suc, ◌+◌, List, [], ◌∷◌, map, Bool, true, false, ◌&&◌, ◌||◌, length, drop, ltb, leb, eqb}
+use Rattle.std.specs.Prelude.{ℕ, suc, ◌+◌, ◌<◌, ◌≡◌, List, [], ◌∷◌, map, Bool, true, false, ◌&&◌, ◌||◌, length, drop, ltb, leb, eqb}
 use Prim.Native.String.{String}
 use Prim.Native.String.{[] as empty, ◌∷◌ as then}
 use Prim.Native.Char.{Char, code}
@@ -29,6 +29,10 @@ digit b = leb 48 b && leb b 57
 -- `a` to `z`
 unfoldable pub letter : ℕ → Bool
 letter b = leb 97 b && leb b 122
+
+-- a test of bytes that says what p says of the byte in lower case
+abbrev pub Tells : (ℕ → Bool → Type 0) → (ℕ → Bool) → Type 0
+Tells says p = (b : ℕ) (r : Bool) → b < 256 → says b r → r ≡ p (lower b)
 
 -- how many bytes in front pass the test
 unfoldable pub run : (ℕ → Bool) → List ℕ → ℕ

@@ -1,53 +1,23 @@
 // The ground of the readers of items, as in items/primitive.rs: what they answer, single bytes, runs of bytes, and fixed bytes. A reader
-// takes a text and a place in it, any place, and answers a match with the next place, or no match. It sees the text in lower case, and
-// lowers each byte as it reads it.
+// takes a text and a place in it, any place, and answers what it found and the next place, if it found anything. It sees the text in lower
+// case, and lowers each byte as it reads it. Text and place go apart: a reader asks many places of one text, as the definitions do.
 //
 // The definitions and laws of `spaces`, `numbers` and `words`, which stand on this crate, are here too.
 
 #![tactic(auto)]
 
-ghost use Rattle.std.specs.Prelude.{min, ◌≡◌, eqb};
-ghost use Rattle.primitive.specs.Text.{lower, lowered, blank, digit, letter, past, byte, tag};
-ghost use Rattle.primitive.specs.Primitive.{multispace1, sign, dec_uint_str, alpha1, place_answer, slice_answer, sign_answer};
+ghost use Rattle.std.specs.Prelude.{ℕ, Bool, min, ◌≡◌, eqb};
+ghost use Rattle.primitive.specs.Text.{lower, lowered, blank, digit, letter, past, some, Tells, byte, tag};
+ghost use Rattle.primitive.specs.Answer.{answer_of, place_answer, slice_answer};
+ghost use Rattle.primitive.specs.Primitive.{multispace1, sign, dec_uint_str, alpha1};
 
-// Where a match ends.
-#[derive(Clone, Copy)]
-pub enum ReadPlace {
-    Match(usize),
+// Why a reader that may stop the reading found nothing.
+#[derive(Clone, Copy, Debug, PartialEq, Eq)]
+pub enum Miss {
+    // there is no such thing there: another reader may be tried
     NoMatch,
-}
-
-// Whether a sign is a minus, and where it ends.
-#[derive(Clone, Copy)]
-pub enum ReadSign {
-    Match(bool, usize),
-    NoMatch,
-}
-
-// A number, and where it ends.
-#[derive(Clone, Copy)]
-pub enum ReadU8 {
-    Match(u8, usize),
-    NoMatch,
-}
-
-#[derive(Clone, Copy)]
-pub enum ReadU32 {
-    Match(u32, usize),
-    NoMatch,
-}
-
-#[derive(Clone, Copy)]
-pub enum ReadU64 {
-    Match(u64, usize),
-    NoMatch,
-}
-
-// A signed number, and where it ends.
-#[derive(Clone, Copy)]
-pub enum ReadI32 {
-    Match(i32, usize),
-    NoMatch,
+    // what stands there is refused, whatever other readers would make of it
+    Stop,
 }
 
 #[derive(Clone, Copy)]
@@ -56,123 +26,96 @@ pub struct SecAndNsec {
     pub nsec: u32,
 }
 
-// Seconds with a fraction, and where they end.
-#[derive(Clone, Copy)]
-pub enum ReadSecAndNsec {
-    Match(SecAndNsec, usize),
-    NoMatch,
-}
-
 // A byte in lower case.
 #[tactic(auto, unfolding(crate::specs::Text::lower))]
 pub fn to_lower(b: u8) -> u8
     ensures { result ≡ lower b }
 {
-    if 65 <= b {
-        if b <= 90 {
-            return b + 32;
-        }
-    }
-    b
+    b.to_ascii_lowercase()
 }
 
+// `is_ascii_whitespace` leaves out byte 11.
 #[tactic(auto, unfolding(crate::specs::Text::blank))]
 fn is_blank(b: u8) -> bool
     ensures { result ≡ blank b }
 {
-    b == 32 || 9 <= b && b <= 13
+    matches!(b, 9..=13 | 32)
 }
 
 #[tactic(auto, unfolding(crate::specs::Text::digit))]
 pub fn is_digit(b: u8) -> bool
     ensures { result ≡ digit b }
 {
-    48 <= b && b <= 57
+    b.is_ascii_digit()
 }
 
 // Whether a byte is a letter, small or capital.
-#[tactic(auto, using(crate::proofs::Lowered::letters_tests))]
-fn is_alpha(b: u8) -> bool
+#[tactic(auto, unfolding(crate::specs::Text::letter, crate::specs::Text::lower))]
+fn is_letter(b: u8) -> bool
     ensures { result ≡ letter (lower b) }
 {
-    if 97 <= b {
-        return b <= 122;
+    b.is_ascii_alphabetic()
+}
+
+// The end of the bytes from a place on that pass a test.
+#[tactic(auto, using(crate::proofs::Runs::runs))]
+fn past<F: Fn(u8) -> bool>(s: &[u8], at: usize, passes: F) -> usize
+    requires { F.IsAlwaysCallable passes }
+    ensures { (p : ℕ → Bool) → Tells (F.post passes) p → result ≡ past p (lowered s.now) at }
+{
+    // `position` was tried in its place: std speaks of the runs of the closure there, and the proof did not close
+    for i in at..s.len() {
+        if !passes(s[i]) {
+            return i;
+        }
     }
-    if 65 <= b {
-        return b <= 90;
-    }
-    false
+    usize::max(at, s.len())
+}
+
+// The same where there is one or more.
+fn some<F: Fn(u8) -> bool>(s: &[u8], at: usize, passes: F) -> Option<usize>
+    requires { F.IsAlwaysCallable passes }
+    ensures { (p : ℕ → Bool) → Tells (F.post passes) p → slice_answer (lowered s.now) at result ≡ some p (lowered s.now) at }
+{
+    let end = past(s, at, passes);
+    if at < end { Some(end) } else { None }
 }
 
 // The end of the blanks at a place.
-#[tactic(auto, using(crate::proofs::Runs::runs))]
 pub fn multispace0(s: &[u8], at: usize) -> usize
     ensures { result ≡ past blank (lowered s.now) at }
 {
-    let mut i = at;
-    while i < s.len() {
-        if is_blank(s[i]) {
-            i += 1;
-        } else {
-            return i;
-        }
-    }
-    i
+    past(s, at, is_blank)
 }
 
 // One blank or more.
-#[tactic(auto, using(crate::proofs::Runs::runs), unfolding(crate::specs::Primitive::multispace1))]
-pub fn multispace1(s: &[u8], at: usize) -> ReadPlace
+pub fn multispace1(s: &[u8], at: usize) -> Option<usize>
     ensures { slice_answer (lowered s.now) at result ≡ multispace1 (lowered s.now) at }
 {
-    let end = multispace0(s, at);
-    if at < end {
-        ReadPlace::Match(end)
-    } else {
-        ReadPlace::NoMatch
-    }
+    some(s, at, is_blank)
 }
 
 // One digit or more; the answer is where they end.
-#[tactic(auto, using(crate::proofs::Runs::runs), unfolding(crate::specs::Primitive::dec_uint_str))]
-pub fn dec_uint_str(s: &[u8], at: usize) -> ReadPlace
+pub fn dec_uint_str(s: &[u8], at: usize) -> Option<usize>
     ensures { slice_answer (lowered s.now) at result ≡ dec_uint_str (lowered s.now) at }
 {
-    let end = digits(s, at);
-    if at < end {
-        ReadPlace::Match(end)
-    } else {
-        ReadPlace::NoMatch
-    }
+    some(s, at, is_digit)
 }
 
 // The end of the digits at a place.
-#[tactic(auto, using(crate::proofs::Runs::runs))]
 pub fn digits(s: &[u8], at: usize) -> usize
     ensures { result ≡ past digit (lowered s.now) at }
 {
-    let mut i = at;
-    while i < s.len() {
-        if is_digit(s[i]) {
-            i += 1;
-        } else {
-            return i;
-        }
-    }
-    i
+    past(s, at, is_digit)
 }
 
 // One byte. A capital letter is never found, as the text is seen in lower case.
 #[tactic(auto, using(crate::proofs::Tags::tags))]
-pub fn byte(s: &[u8], at: usize, b: u8) -> ReadPlace
+pub fn byte(s: &[u8], at: usize, b: u8) -> Option<usize>
     ensures { place_answer result ≡ byte b (lowered s.now) at }
 {
-    if at < s.len() {
-        if lowers_to(s[at], b) {
-            return ReadPlace::Match(at + 1);
-        }
-    }
-    ReadPlace::NoMatch
+    let c = s.get(at)?;
+    if lowers_to(*c, b) { Some(at + 1) } else { None }
 }
 
 // Whether a byte is b in lower case. One below 65, the letter A, is its own.
@@ -187,71 +130,38 @@ fn lowers_to(c: u8, b: u8) -> bool
 }
 
 // A plus or minus.
-#[tactic(auto, using(crate::proofs::Chain::chain), unfolding(crate::specs::Primitive::sign))]
-pub fn sign(s: &[u8], at: usize) -> ReadSign
-    ensures { sign_answer result ≡ sign (lowered s.now) at }
+#[tactic(auto, unfolding(crate::specs::Primitive::sign))]
+pub fn sign(s: &[u8], at: usize) -> Option<(bool, usize)>
+    ensures { answer_of result ≡ sign (lowered s.now) at }
 {
-    if let ReadPlace::Match(next) = byte(s, at, 43) {
-        return ReadSign::Match(false, next);
-    }
-    let ReadPlace::Match(next) = byte(s, at, 45) else {
-        return ReadSign::NoMatch;
-    };
-    ReadSign::Match(true, next)
+    let plus = byte(s, at, 43).map(|next| (false, next));
+    plus.or_else(|| byte(s, at, 45).map(|next| (true, next)))
 }
 
 // The bytes `w`, in lower case, whatever stands behind them.
-pub fn tag(s: &[u8], at: usize, w: &[u8]) -> ReadPlace
+#[tactic(auto, using(crate::proofs::Tags::tags))]
+pub fn tag(s: &[u8], at: usize, w: &[u8]) -> Option<usize>
     ensures { place_answer result ≡ tag w.now (lowered s.now) at }
 {
-    let mut i = at;
-    let mut k = 0;
-    while k < w.len() {
-        if s.len() <= i {
-            return ReadPlace::NoMatch;
-        }
-        if to_lower(s[i]) == w[k] {
-            i += 1;
-            k += 1;
-        } else {
-            return ReadPlace::NoMatch;
+    for (k, b) in w.iter().enumerate() {
+        let c = s.get(at + k)?;
+        if to_lower(*c) != *b {
+            return None;
         }
     }
-    ReadPlace::Match(i)
+    Some(at + w.len())
 }
 
 // A word, one letter or more; the answer is where it ends.
-#[tactic(auto, using(crate::proofs::Runs::runs), unfolding(crate::specs::Primitive::alpha1))]
-pub fn alpha1(s: &[u8], at: usize) -> ReadPlace
+pub fn alpha1(s: &[u8], at: usize) -> Option<usize>
     ensures { slice_answer (lowered s.now) at result ≡ alpha1 (lowered s.now) at }
 {
-    let end = letters(s, at);
-    if at < end {
-        ReadPlace::Match(end)
-    } else {
-        ReadPlace::NoMatch
-    }
+    some(s, at, is_letter)
 }
 
-// The end of the letters at a place.
-#[tactic(auto, using(crate::proofs::Runs::runs))]
-fn letters(s: &[u8], at: usize) -> usize
-    ensures { result ≡ past letter (lowered s.now) at }
-{
-    let mut i = at;
-    while i < s.len() {
-        if is_alpha(s[i]) {
-            i += 1;
-        } else {
-            return i;
-        }
-    }
-    i
-}
-
-// The smaller of two places.
+// The smaller of two places. It is public, with a promise of its own.
 pub fn min(a: usize, b: usize) -> usize
     ensures { result ≡ min a b }
 {
-    if a < b { a } else { b }
+    usize::min(a, b)
 }

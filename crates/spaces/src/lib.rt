@@ -5,9 +5,8 @@
 
 ghost use Rattle.std.specs.Prelude.{◌≡◌, true};
 ghost use Rattle.primitive.specs.Text.{lowered, byte, tag};
-ghost use Rattle.primitive.specs.Primitive.{comment, ignored_hyphen_or_plus, ignored, space, spaced, colon, plus_or_minus, place_answer, sign_answer};
-
-use primitive::{ReadPlace, ReadSign};
+ghost use Rattle.primitive.specs.Answer.{answer_of, place_answer};
+ghost use Rattle.primitive.specs.Primitive.{comment, ignored_hyphen_or_plus, ignored, space, spaced, colon, plus_or_minus};
 
 // The end of the space at a place.
 #[tactic(auto, using(primitive::proofs::Spaces::spaces))]
@@ -55,14 +54,20 @@ fn signed_digit(s: &[u8], at: usize) -> bool
     false
 }
 
-// The same where there may be space. No byte above 45, the hyphen, begins any.
+// The end of the space and comments at a place. No byte above 45, the hyphen, begins any. Inlined, it would have `space` save registers on its
+// quick ways too: 10 instructions a call.
+#[inline(never)]
 #[tactic(auto, using(primitive::proofs::Spaces::spaces))]
 fn skip_space(s: &[u8], at: usize) -> usize
     ensures { result ≡ space (lowered s.now) at }
 {
     let mut i = primitive::multispace0(s, at);
+    // each step ends where another reader does, so there is no index to count
     while i < s.len() {
-        let ReadPlace::Match(next) = ignored(s, i) else {
+        if 45 < s[i] {
+            return i;
+        }
+        let Some(next) = ignored(s, i) else {
             return i;
         };
         i = primitive::multispace0(s, next);
@@ -71,60 +76,53 @@ fn skip_space(s: &[u8], at: usize) -> usize
 }
 
 // A comment, or a sign that is ignored.
-fn ignored(s: &[u8], at: usize) -> ReadPlace
+#[tactic(auto, unfolding(primitive::specs::Primitive::ignored))]
+fn ignored(s: &[u8], at: usize) -> Option<usize>
     ensures { place_answer result ≡ ignored (lowered s.now) at }
 {
-    let ReadPlace::Match(_) = primitive::byte(s, at, 40) else {
-        return ignored_hyphen_or_plus(s, at);
-    };
-    comment(s, at)
+    comment(s, at).or_else(|| ignored_hyphen_or_plus(s, at))
 }
 
 // A hyphen or plus is ignored when no digit follows it, behind blanks too. In `- (comment) 12 weeks` a comment follows it.
 #[tactic(auto, using(primitive::proofs::Spaces::spaces), unfolding(primitive::specs::Primitive::ignored_hyphen_or_plus))]
-fn ignored_hyphen_or_plus(s: &[u8], at: usize) -> ReadPlace
+fn ignored_hyphen_or_plus(s: &[u8], at: usize) -> Option<usize>
     ensures { place_answer result ≡ ignored_hyphen_or_plus (lowered s.now) at }
 {
-    let ReadSign::Match(_, next) = primitive::sign(s, at) else {
-        return ReadPlace::NoMatch;
-    };
+    let (_, next) = primitive::sign(s, at)?;
     let end = primitive::multispace0(s, next);
     if end < s.len() {
         if primitive::is_digit(s[end]) {
-            return ReadPlace::NoMatch;
+            return None;
         }
     }
-    ReadPlace::Match(end)
+    Some(end)
 }
 
 // A comment stands between parentheses and may hold comments; one that is not closed is no comment.
-fn comment(s: &[u8], at: usize) -> ReadPlace
+#[tactic(auto, using(primitive::proofs::Spaces::comments), unfolding(primitive::specs::Primitive::comment))]
+fn comment(s: &[u8], at: usize) -> Option<usize>
     ensures { place_answer result ≡ comment (lowered s.now) at }
 {
-    let ReadPlace::Match(start) = primitive::byte(s, at, 40) else {
-        return ReadPlace::NoMatch;
-    };
+    let start = primitive::byte(s, at, 40)?;
     let mut i = start;
+    // a step over an inner comment is as long as that comment, so `for` doesn't fit
     while i < s.len() {
         let b = primitive::to_lower(s[i]);
         if b == 41 {
-            return ReadPlace::Match(i + 1);
+            return Some(i + 1);
         }
         let is_open = b == 40;
         if is_open {
-            let ReadPlace::Match(next) = comment(s, i) else {
-                return ReadPlace::NoMatch;
-            };
-            i = next;
+            i = comment(s, i)?;
         } else {
             i += 1;
         }
     }
-    ReadPlace::NoMatch
+    None
 }
 
 // One byte behind space.
-pub fn spaced_byte(s: &[u8], at: usize, b: u8) -> ReadPlace
+pub fn spaced_byte(s: &[u8], at: usize, b: u8) -> Option<usize>
     ensures { place_answer result ≡ spaced (byte b) (lowered s.now) at }
 {
     primitive::byte(s, space(s, at), b)
@@ -132,7 +130,7 @@ pub fn spaced_byte(s: &[u8], at: usize, b: u8) -> ReadPlace
 
 // A hyphen behind space. One with a digit behind it, which is not ignored, is found at once.
 #[tactic(auto, using(primitive::proofs::Spaces::spaces))]
-pub fn spaced_hyphen(s: &[u8], at: usize) -> ReadPlace
+pub fn spaced_hyphen(s: &[u8], at: usize) -> Option<usize>
     ensures { place_answer result ≡ spaced (byte 45) (lowered s.now) at }
 {
     if at < s.len() {
@@ -140,7 +138,7 @@ pub fn spaced_hyphen(s: &[u8], at: usize) -> ReadPlace
             let next = at + 1;
             if next < s.len() {
                 if primitive::is_digit(s[next]) {
-                    return ReadPlace::Match(next);
+                    return Some(next);
                 }
             }
         }
@@ -149,21 +147,22 @@ pub fn spaced_hyphen(s: &[u8], at: usize) -> ReadPlace
 }
 
 #[tactic(auto, unfolding(primitive::specs::Primitive::colon))]
-pub fn colon(s: &[u8], at: usize) -> ReadPlace
+pub fn colon(s: &[u8], at: usize) -> Option<usize>
     ensures { place_answer result ≡ colon (lowered s.now) at }
 {
     spaced_byte(s, at, 58)
 }
 
 // A plus or minus, behind space.
-pub fn plus_or_minus(s: &[u8], at: usize) -> ReadSign
-    ensures { sign_answer result ≡ plus_or_minus (lowered s.now) at }
+#[tactic(auto, unfolding(primitive::specs::Primitive::plus_or_minus))]
+pub fn plus_or_minus(s: &[u8], at: usize) -> Option<(bool, usize)>
+    ensures { answer_of result ≡ plus_or_minus (lowered s.now) at }
 {
     primitive::sign(s, space(s, at))
 }
 
 // The bytes `w` behind space.
-pub fn spaced_tag(s: &[u8], at: usize, w: &[u8]) -> ReadPlace
+pub fn spaced_tag(s: &[u8], at: usize, w: &[u8]) -> Option<usize>
     ensures { place_answer result ≡ spaced (tag w.now) (lowered s.now) at }
 {
     primitive::tag(s, space(s, at), w)

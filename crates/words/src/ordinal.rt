@@ -2,51 +2,51 @@
 
 ghost use Rattle.std.specs.Prelude.{◌≡◌};
 ghost use Rattle.primitive.specs.Text.{lowered};
-ghost use Rattle.primitive.specs.Ordinal.{text_ordinal, number_ordinal, ordinal, i32_answer};
-
-use primitive::{ReadI32, ReadPlace, ReadSign};
+ghost use Rattle.primitive.specs.Answer.{answer_of};
+ghost use Rattle.primitive.specs.Ordinal.{text_ordinal, number_ordinal, ordinal};
 
 // A word or, where there is none that is an ordinal, a number.
-#[tactic(auto, using(primitive::proofs::Chain::chain), unfolding(primitive::specs::Ordinal::ordinal))]
-pub fn ordinal(s: &[u8], at: usize) -> ReadI32
-    ensures { i32_answer result ≡ ordinal (lowered s.now) at }
+#[tactic(auto, unfolding(primitive::specs::Ordinal::ordinal))]
+pub fn ordinal(s: &[u8], at: usize) -> Option<(i32, usize)>
+    ensures { answer_of result ≡ ordinal (lowered s.now) at }
 {
-    let ReadI32::Match(n, next) = text_ordinal(s, at) else {
-        return number_ordinal(s, at);
-    };
-    ReadI32::Match(n, next)
+    text_ordinal(s, at).or_else(|| number_ordinal(s, at))
 }
 
 // A number with a sign or without one, behind space.
-fn number_ordinal(s: &[u8], at: usize) -> ReadI32
-    ensures { i32_answer result ≡ number_ordinal (lowered s.now) at }
+#[tactic(auto, unfolding(primitive::specs::Ordinal::number_ordinal))]
+fn number_ordinal(s: &[u8], at: usize) -> Option<(i32, usize)>
+    ensures { answer_of result ≡ number_ordinal (lowered s.now) at }
 {
     let start = spaces::space(s, at);
-    if let ReadSign::Match(negative, next) = primitive::sign(s, start) {
-        return numbers::signed_number(s, next, negative);
-    }
-    numbers::signed_number(s, start, false)
+    let (negative, next) = primitive::sign(s, start).unwrap_or((false, start));
+    numbers::signed_number(s, next, negative)
 }
 
-const ORDINALS: [i32; 14] = [-1, 0, 1, 1, 3, 4, 5, 6, 7, 8, 9, 10, 11, 12];
+const ORDINALS: [(&str, i32); 14] = [
+    ("last", -1),
+    ("this", 0),
+    ("next", 1),
+    ("first", 1),
+    ("third", 3),
+    ("fourth", 4),
+    ("fifth", 5),
+    ("sixth", 6),
+    ("seventh", 7),
+    ("eighth", 8),
+    ("ninth", 9),
+    ("tenth", 10),
+    ("eleventh", 11),
+    ("twelfth", 12),
+];
 
 // A word of the table, behind space.
-fn text_ordinal(s: &[u8], at: usize) -> ReadI32
-    ensures { i32_answer result ≡ text_ordinal (lowered s.now) at }
+#[tactic(auto, unfolding(primitive::specs::Ordinal::text_ordinal))]
+fn text_ordinal(s: &[u8], at: usize) -> Option<(i32, usize)>
+    ensures { answer_of result ≡ text_ordinal (lowered s.now) at }
 {
     let start = spaces::space(s, at);
-    let ReadPlace::Match(end) = primitive::alpha1(s, start) else {
-        return ReadI32::NoMatch;
-    };
-    let k = crate::find_word(
-        s,
-        start,
-        end,
-        b"last this next first third fourth fifth sixth seventh eighth ninth tenth eleventh twelfth ",
-    );
-    if k < 14 {
-        ReadI32::Match(ORDINALS[k], end)
-    } else {
-        ReadI32::NoMatch
-    }
+    let end = primitive::alpha1(s, start)?;
+    let n = crate::find_value(s, start, end, &ORDINALS)?;
+    Some((n, end))
 }

@@ -1,18 +1,17 @@
 -- `iso2` is its definition's chain: the parts of the digits are parts of the text. Assumes nothing.
 use Prim.Native.Nat.{ℕ, ◌+◌, ◌-◌, ◌<◌, ◌≤◌}
-use mathlib.Core.Path.{◌∙◌, ◌≡◌, ap, sym}
+use mathlib.Core.Path.{◌≡◌, sym}
 use mathlib.Core.Bool.{true}
 use mathlib.Core.List.{List}
 use native.Mathlib.Omega.{arith}
 use lib.Dec.{leb}
 use lib.ListN.{length}
 use borrow.Author.Tests.{le-leb, lt-leb}
-use Rattle.dates.proofs.Chain.{dates}
 use Rattle.dates.proofs.Parts.{part_back, part_front, part_length, part_middle, run_ends}
 use Rattle.dates.proofs.Years.{parse_moved, parse_none}
 use Rattle.dates.specs.Date.{five_digits, iso2}
 use Rattle.primitive.specs.Answer.{matched}
-use Rattle.primitive.specs.Primitive.{dec_uint_str, slice_answer, u8_answer}
+use Rattle.primitive.specs.Primitive.{dec_uint_str}
 use Rattle.primitive.specs.Text.{digit, lowered}
 use lib.Seq.{slice}
 use lib.ListN.{take, drop}
@@ -40,58 +39,42 @@ module _ (text : List ℕ) (at end : ℕ) (read : dec_uint_str text at ≡ match
   year_part : at + 5 ≤ end → take (length (slice at end text) - 4) (slice at end text) ≡ slice at (end - 4) text
   year_part l = part_front text at end ends.1 4 (omega arith)
 
-pub returns-in_default : goal.returns-in_default
+pub returns-in_err-end : goal.returns-in_err-end
 unfolding iso2
-returns-in_default c = search dates
+returns-in_err-end c = rw (c.from_residual.ensures, ← c.in_err-end.ensures)
 
 pub overflow_sub-end : goal.overflow_sub-end
-overflow_sub-end c =
-    let a = c.args in
-    let t = lowered a.s.now in
-    let ends = ends t a.at c.in-Match.end (sym c.dec_uint_str.ensures ∙ ap (slice_answer t a.at) c.in-Match.is) in
-    omega (arith, ends)
+overflow_sub-end c = let inside = ends _ _ _ (sym c.in_ok-end.ensures) in omega arith
 
 pub returns-then-end-at-lt-FEWEST_DIGITS : goal.returns-then-end-at-lt-FEWEST_DIGITS
 unfolding iso2 five_digits
 returns-then-end-at-lt-FEWEST_DIGITS c =
-    let a = c.args in
-    let t = lowered a.s.now in
-    let e = c.in-Match.end in
-    let read = sym c.dec_uint_str.ensures ∙ ap (slice_answer t a.at) c.in-Match.is in
-    let count = count t a.at e read in
-    simp (read, lt-leb 5 (length (slice a.at e t)) (omega (arith, count)))
+    let read = sym c.in_ok-end.ensures in
+    let few = count _ _ _ read in
+    simp (read, lt-leb 5 (length (slice c.args.at c.in_ok-end.end (lowered c.args.s.now))) (omega arith))
 
-pub returns-in_default-u8_from_str : goal.returns-in_default-u8_from_str
+pub returns-in_err-month : goal.returns-in_err-month
 unfolding iso2 five_digits
-returns-in_default-u8_from_str c =
-    let a = c.args in
-    let t = lowered a.s.now in
-    let e = c.in-Match.end in
-    let read = sym c.dec_uint_str.ensures ∙ ap (slice_answer t a.at) c.in-Match.is in
-    let l : a.at + 5 ≤ e = omega arith in
-    let m = parse_none 255 _ _ _ e (sym (ap u8_answer c.in_default-u8_from_str.is) ∙ c.u8_from_str.ensures) in
-    simp (read, enough t a.at e read l, month_part t a.at e read l, m)
+returns-in_err-month c =
+    let read = sym c.in_ok-end.ensures in
+    let l : c.args.at + 5 ≤ c.in_ok-end.end = omega arith in
+    let m = parse_none _ _ _ _ c.in_ok-end.end c.in_err-month.ensures in
+    rw c.from_residual-in_err-month.ensures (simp (read, enough _ _ _ read l, month_part _ _ _ read l, m))
 
-pub returns-in_default-u8_from_str-2 : goal.returns-in_default-u8_from_str-2
+pub returns-in_err-day : goal.returns-in_err-day
 unfolding iso2 five_digits
-returns-in_default-u8_from_str-2 c =
-    let a = c.args in
-    let t = lowered a.s.now in
-    let e = c.in-Match.end in
-    let read = sym c.dec_uint_str.ensures ∙ ap (slice_answer t a.at) c.in-Match.is in
-    let l : a.at + 5 ≤ e = omega arith in
-    let m = parse_moved 255 _ _ _ e _ _ (sym (ap u8_answer c.in-Match-u8_from_str.is) ∙ c.u8_from_str.ensures) in
-    let d = parse_none 255 _ _ _ e (sym (ap u8_answer c.in_default-u8_from_str-2.is) ∙ c.u8_from_str-2.ensures) in
-    simp (read, enough t a.at e read l, month_part t a.at e read l, m, day_part t a.at e read l, d)
+returns-in_err-day c =
+    let read = sym c.in_ok-end.ensures in
+    let l : c.args.at + 5 ≤ c.in_ok-end.end = omega arith in
+    let m = parse_moved _ _ _ _ c.in_ok-end.end _ _ c.in_ok-month.ensures in
+    let d = parse_none _ _ _ _ c.in_ok-end.end c.in_err-day.ensures in
+    rw c.from_residual-in_err-day.ensures (simp (read, enough _ _ _ read l, month_part _ _ _ read l, m, day_part _ _ _ read l, d))
 
 pub returns : goal.returns
 unfolding iso2 five_digits
 returns c =
-    let a = c.args in
-    let t = lowered a.s.now in
-    let e = c.in-Match.end in
-    let read = sym c.dec_uint_str.ensures ∙ ap (slice_answer t a.at) c.in-Match.is in
-    let l : a.at + 5 ≤ e = omega arith in
-    let m = parse_moved 255 _ _ _ e _ _ (sym (ap u8_answer c.in-Match-u8_from_str.is) ∙ c.u8_from_str.ensures) in
-    let d = parse_moved 255 _ _ _ e _ _ (sym (ap u8_answer c.in-Match-u8_from_str-2.is) ∙ c.u8_from_str-2.ensures) in
-    simp (read, enough t a.at e read l, month_part t a.at e read l, m, day_part t a.at e read l, d, year_part t a.at e read l) c.with_year.ensures
+    let read = sym c.in_ok-end.ensures in
+    let l : c.args.at + 5 ≤ c.in_ok-end.end = omega arith in
+    let m = parse_moved _ _ _ _ c.in_ok-end.end _ _ c.in_ok-month.ensures in
+    let d = parse_moved _ _ _ _ c.in_ok-end.end _ _ c.in_ok-day.ensures in
+    simp (read, enough _ _ _ read l, month_part _ _ _ read l, m, day_part _ _ _ read l, d, year_part _ _ _ read l) c.with_year.ensures

@@ -1,92 +1,37 @@
 -- `month_named` is the month that the table of all names gives, by the table of those with its first letter. Assumes nothing.
-use Rattle.dates.proofs.Months.{by_letter, other_letter, j_months, j_begins, m_months, m_begins, a_months, a_begins, f_months, f_begins, s_months, s_begins, o_months, o_begins, n_months, n_begins, d_months, d_begins, month_names}
+use Rattle.dates.proofs.Months.{by_letter, j_months, j_begins, m_months, m_begins, a_months, a_begins, f_months, f_begins, s_months, s_begins, o_months, o_begins, n_months, n_begins, d_months, d_begins}
 use mathlib.Core.Path.{refl, sym, ◌∙◌}
-use Rattle.primitive.specs.Text.{bytes}
-use Rattle.primitive.specs.Primitive.{words}
-use Rattle.primitive.proofs.Tables.{keys, values}
+use Rattle.primitive.specs.Text.{lower, lowered, bytes}
 use Rattle.months.proofs.month_named.Goals as goal
 
-pub returns-then-end-start : goal.returns-then-end-start
-returns-then-end-start c = search month_names
+pub returns-in-106 : goal.returns-in-106
+unfolding lower lowered bytes j_months
+returns-in-106 c = by_letter 106 j_months j_begins _ refl _ _ _ _ c.month_in.ensures c.if-end-start.false c.if-s-start.false (sym c.in-106.is ∙ c.to_lower.ensures)
 
-pub returns-then-s-start : goal.returns-then-s-start
-returns-then-s-start c = search month_names
+pub returns-in-109 : goal.returns-in-109
+unfolding lower lowered bytes m_months
+returns-in-109 c = by_letter 109 m_months m_begins _ refl _ _ _ _ c.month_in-in-109.ensures c.if-end-start.false c.if-s-start.false (sym c.in-109.is ∙ c.to_lower.ensures)
 
-pub returns-then-b-eq106 : goal.returns-then-b-eq106
-unfolding bytes words keys values j_months
-returns-then-b-eq106 c =
-    let d = c in
-    let a = d.args in
-    by_letter 106 j_months j_begins _ _ refl refl _ a.start a.end _ c.month_in.ensures
-    d.if-end-start.false d.if-s-start.false
-    (sym c.if-b-eq106.true ∙ d.to_lower-b.ensures)
+pub returns-in-97 : goal.returns-in-97
+unfolding lower lowered bytes a_months
+returns-in-97 c = by_letter 97 a_months a_begins _ refl _ _ _ _ c.month_in-in-97.ensures c.if-end-start.false c.if-s-start.false (sym c.in-97.is ∙ c.to_lower.ensures)
 
-pub returns-then-b-eq109 : goal.returns-then-b-eq109
-unfolding bytes words keys values m_months
-returns-then-b-eq109 c =
-    let d = c in
-    let a = d.args in
-    by_letter 109 m_months m_begins _ _ refl refl _ a.start a.end _ c.month_in-then-b-eq109.ensures
-    d.if-end-start.false d.if-s-start.false
-    (sym c.if-b-eq109.true ∙ d.to_lower-b.ensures)
+pub returns-in-102 : goal.returns-in-102
+unfolding lower lowered bytes f_months
+returns-in-102 c = by_letter 102 f_months f_begins _ refl _ _ _ _ c.month_in-in-102.ensures c.if-end-start.false c.if-s-start.false (sym c.in-102.is ∙ c.to_lower.ensures)
 
-pub returns-then-b-eq97 : goal.returns-then-b-eq97
-unfolding bytes words keys values a_months
-returns-then-b-eq97 c =
-    let d = c in
-    let a = d.args in
-    by_letter 97 a_months a_begins _ _ refl refl _ a.start a.end _ c.month_in-then-b-eq97.ensures
-    d.if-end-start.false d.if-s-start.false
-    (sym c.if-b-eq97.true ∙ d.to_lower-b.ensures)
+pub returns-in-115 : goal.returns-in-115
+unfolding lower lowered bytes s_months
+returns-in-115 c = by_letter 115 s_months s_begins _ refl _ _ _ _ c.month_in-in-115.ensures c.if-end-start.false c.if-s-start.false (sym c.in-115.is ∙ c.to_lower.ensures)
 
-pub returns-then-b-eq102 : goal.returns-then-b-eq102
-unfolding bytes words keys values f_months
-returns-then-b-eq102 c =
-    let d = c in
-    let a = d.args in
-    by_letter 102 f_months f_begins _ _ refl refl _ a.start a.end _ c.month_in-then-b-eq102.ensures
-    d.if-end-start.false d.if-s-start.false
-    (sym c.if-b-eq102.true ∙ d.to_lower-b.ensures)
+pub returns-in-111 : goal.returns-in-111
+unfolding lower lowered bytes o_months
+returns-in-111 c = by_letter 111 o_months o_begins _ refl _ _ _ _ c.month_in-in-111.ensures c.if-end-start.false c.if-s-start.false (sym c.in-111.is ∙ c.to_lower.ensures)
 
-pub returns-then-b-eq115 : goal.returns-then-b-eq115
-unfolding bytes words keys values s_months
-returns-then-b-eq115 c =
-    let d = c in
-    let a = d.args in
-    by_letter 115 s_months s_begins _ _ refl refl _ a.start a.end _ c.month_in-then-b-eq115.ensures
-    d.if-end-start.false d.if-s-start.false
-    (sym c.if-b-eq115.true ∙ d.to_lower-b.ensures)
+pub returns-in-110 : goal.returns-in-110
+unfolding lower lowered bytes n_months
+returns-in-110 c = by_letter 110 n_months n_begins _ refl _ _ _ _ c.month_in-in-110.ensures c.if-end-start.false c.if-s-start.false (sym c.in-110.is ∙ c.to_lower.ensures)
 
-pub returns-then-b-eq111 : goal.returns-then-b-eq111
-unfolding bytes words keys values o_months
-returns-then-b-eq111 c =
-    let d = c in
-    let a = d.args in
-    by_letter 111 o_months o_begins _ _ refl refl _ a.start a.end _ c.month_in-then-b-eq111.ensures
-    d.if-end-start.false d.if-s-start.false
-    (sym c.if-b-eq111.true ∙ d.to_lower-b.ensures)
-
-pub returns-then-b-eq110 : goal.returns-then-b-eq110
-unfolding bytes words keys values n_months
-returns-then-b-eq110 c =
-    let d = c in
-    let a = d.args in
-    by_letter 110 n_months n_begins _ _ refl refl _ a.start a.end _ c.month_in-then-b-eq110.ensures
-    d.if-end-start.false d.if-s-start.false
-    (sym c.if-b-eq110.true ∙ d.to_lower-b.ensures)
-
-pub returns-then-b-eq100 : goal.returns-then-b-eq100
-unfolding bytes words keys values d_months
-returns-then-b-eq100 c =
-    let d = c in
-    let a = d.args in
-    by_letter 100 d_months d_begins _ _ refl refl _ a.start a.end _ c.month_in-then-b-eq100.ensures
-    d.if-end-start.false d.if-s-start.false
-    (sym c.if-b-eq100.true ∙ d.to_lower-b.ensures)
-
-pub returns : goal.returns
-returns c =
-    let d = c in
-    other_letter _ _ _
-    d.if-end-start.false d.if-s-start.false _ d.to_lower-b.ensures
-    c.if-b-eq106.false c.if-b-eq109.false c.if-b-eq97.false c.if-b-eq102.false c.if-b-eq115.false c.if-b-eq111.false c.if-b-eq110.false c.if-b-eq100.false
+pub returns-in-100 : goal.returns-in-100
+unfolding lower lowered bytes d_months
+returns-in-100 c = by_letter 100 d_months d_begins _ refl _ _ _ _ c.month_in-in-100.ensures c.if-end-start.false c.if-s-start.false (sym c.in-100.is ∙ c.to_lower.ensures)

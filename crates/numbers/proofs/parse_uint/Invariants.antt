@@ -2,13 +2,10 @@
 use lib.Seq.{slice}
 use Rattle.primitive.proofs.Values.{grown_from}
 use mathlib.Core.Path.{◌≡◌}
-use Prim.Native.Nat.{◌≤◌, ◌-◌}
+use Prim.Native.Nat.{◌≤◌}
 use Rattle.primitive.specs.Primitive.{decimal}
 use Rattle.primitive.specs.Text.{lowered}
 use Rattle.numbers.proofs.parse_uint.Given as goal
 
 abbrev pub invariant-loop-i : goal.invariant-loop-i
 invariant-loop-i l = (l.acc ≤ l.max) × (grown_from l.acc l.s l.i l.to ≡ decimal (slice l.from l.to (lowered l.s)))
-
-abbrev pub decreases-loop-i : goal.decreases-loop-i
-decreases-loop-i l = l.to - l.i

@@ -1,17 +1,12 @@
--- `tag` is its definition. The loop's invariant: the text begins with `w` if what is left of it begins with what is left of `w`. Assumes nothing.
+-- `tag` is its definition. Assumes nothing.
 use borrow.Author.Rules.{rules}
-use Rattle.primitive.proofs.Tags.{tag_next, tags}
+use borrow.Author.Tests.{ltb-true}
+use native.Mathlib.Omega.{arith}
+use mathlib.Core.Path.{sym}
+use Rattle.primitive.proofs.Tags.{tag_next}
 use Rattle.primitive.proofs.tag.Goals as goal
-
-pub returns-then-s-i : goal.returns-then-s-i
-returns-then-s-i c = search tags
 
 pub loop-k-preserved : goal.loop-k-preserved
 loop-k-preserved c =
-    (search rules, search rules, tag_next _ _ _ _ _ c.loop-k.invariant.2 (search rules) (search rules) _ c.to_lower.ensures c.if-to_lower-w.true)
-
-pub returns-else-to_lower-w : goal.returns-else-to_lower-w
-returns-else-to_lower-w c = search tags
-
-pub returns : goal.returns
-returns c = search tags
+    let inside = ltb-true _ _ (sym c.in_ok-c.ensures.lookup.0) in
+    (search rules, search rules, tag_next _ _ _ _ _ c.loop-k.invariant.2 c.loop-k-test.true inside c.to_lower.result (search rules) c.if-to_lower-b.false _ (omega arith))

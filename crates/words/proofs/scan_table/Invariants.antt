@@ -3,14 +3,10 @@
 use lib.Seq.{slice}
 use Rattle.primitive.proofs.Tables.{scan_from}
 use mathlib.Core.Path.{◌≡◌}
-use Prim.Native.Nat.{◌≤◌, ◌-◌}
+use Prim.Native.Nat.{◌≤◌}
 use Rattle.primitive.specs.Primitive.{index, words}
-use lib.ListN.{length}
 use Rattle.primitive.specs.Text.{lowered}
 use Rattle.words.proofs.scan_table.Given as goal
 
-abbrev pub invariant-loop-j : goal.invariant-loop-j
-invariant-loop-j l = (l.k ≤ l.j) × (l.j ≤ length l.table) × (scan_from l.s l.at l.end l.i l.k l.table l.j ≡ index (slice l.at l.end (lowered l.s)) (words l.table))
-
-abbrev pub decreases-loop-j : goal.decreases-loop-j
-decreases-loop-j l = length l.table - l.j
+abbrev pub invariant-loop-b : goal.invariant-loop-b
+invariant-loop-b l = (l.k ≤ l.b-index) × (scan_from l.s l.at l.end l.i l.k l.table l.b-index ≡ index (slice l.at l.end (lowered l.s)) (words l.table))

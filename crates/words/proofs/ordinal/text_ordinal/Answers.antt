@@ -1,25 +1,24 @@
--- `text_ordinal` is its definition's chain: space, letters, and the value at the index of the word. Assumes nothing.
-use mathlib.Core.Path.{refl}
-use lib.IntN.{pos}
-use Rattle.primitive.specs.Text.{bytes}
-use Rattle.primitive.specs.Primitive.{words}
+-- `text_ordinal` is its definition's chain: space, letters, and the value beside the word. Assumes nothing.
+use borrow.Author.Rules.{rules}
+use mathlib.Core.Path.{refl, ap, ◌∙◌}
+use mir.Syntax.{w32}
+use mir.Val.{SFits}
+use mir.Facts.{to_z-of_z}
+use Rattle.primitive.specs.Answer.{found_at}
+use Rattle.primitive.specs.Text.{lower, lowered, bytes}
 use Rattle.primitive.specs.Ordinal.{ordinals, text_ordinal}
-use Rattle.primitive.proofs.Chain.{chain}
-use Rattle.primitive.proofs.Tables.{keys, values, word_in, word_out, i32_entry}
+use Rattle.primitive.proofs.Tables.{beside_named}
 use Rattle.words.proofs.ordinal.text_ordinal.Goals as goal
 
-pub returns-in_default : goal.returns-in_default
-unfolding text_ordinal
-returns-in_default c = rw (← c.space-start.ensures) (search chain)
+pub returns-in_err-n : goal.returns-in_err-n
+unfolding text_ordinal ordinals bytes lower lowered
+returns-in_err-n c =
+    rw (← c.space-start.ensures, ← c.in_ok-end.ensures, c.from_residual-in_err-n.ensures)
+    (ap (found_at c.in_ok-end.end) c.in_err-n.ensures ∙ beside_named _ _ _ ordinals _ refl)
 
-pub returns-then-k-lt14 : goal.returns-then-k-lt14
-unfolding text_ordinal ordinals bytes words keys values
-returns-then-k-lt14 c =
-    rw (← c.space-start.ensures, i32_entry _ _ refl)
-    (word_in ordinals _ refl (pos 0) _ _ _ _ _ c.alpha1.ensures c.in-Match.is _ c.find_word-k.ensures c.if-k-lt14.true)
-
-pub returns-else-k-lt14 : goal.returns-else-k-lt14
-unfolding text_ordinal ordinals bytes words keys
-returns-else-k-lt14 c =
-    rw (← c.space-start.ensures)
-    (word_out ordinals _ refl (pos 0) _ _ _ _ _ c.alpha1.ensures c.in-Match.is _ c.find_word-k.ensures c.if-k-lt14.false)
+pub returns : goal.returns
+unfolding text_ordinal ordinals bytes lower lowered
+returns c =
+    let fits : SFits w32 c.in_ok-n.n = search rules in
+    rw (← c.space-start.ensures, ← c.in_ok-end.ensures, to_z-of_z fits)
+    (ap (found_at c.in_ok-end.end) c.in_ok-n.ensures ∙ beside_named _ _ _ ordinals _ refl)
