@@ -1,5 +1,6 @@
 -- Theorem: each date form of 29.2, with the forms that the Rust has beside them, is read by `parse_item` as exactly its date, and what
 -- stands behind it is left. Blanks may stand in front. Assumes nothing.
+use Rattle.std.specs.Prelude.{None}
 use native.Mathlib.Omega.{arith}
 use Prim.Native.Nat.{ℕ, ◌<◌, ◌≤◌}
 use mathlib.Core.Path.{◌≡◌, refl}
@@ -11,7 +12,6 @@ use Rattle.primitive.specs.Primitive.{decimal}
 use Rattle.dates.specs.Date.{iso1, date_of, exists, unwritten, hyphen, comma, dotted, us, slash_part, literal, literal2, parse_non_iso}
 use Rattle.dates.specs.Date.{nothing as no_part}
 use Rattle.dates.specs.declared.date.Date.{Date}
-use Rattle.dates.specs.declared.date.DateYear.TheVariants.{Absent}
 use Rattle.items.specs.Combined.{parse_time_after_date}
 use Rattle.items.specs.Items.{iso_date, parse_item}
 use Rattle.items.specs.declared.Item.TheVariants as item
@@ -63,7 +63,7 @@ module _ (bs : List ℕ) (b : all blank bs ≡ true) where
 
   -- behind it stands no slash with a number
   pub month_day : {ws ns rest : List ℕ} → Number ws → Number ns → exists 2000 (decimal ws) (decimal ns) ≡ true → digit (head rest) ≡ false → Reads slash_part rest unwritten rest
-      → Reads parse_item (bs ++ (ws ++ (47 ∷ (ns ++ rest)))) (item.Date (date_of Absent (decimal ws) (decimal ns))) rest
+      → Reads parse_item (bs ++ (ws ++ (47 ∷ (ns ++ rest)))) (item.Date (date_of None (decimal ws) (decimal ns))) rest
   month_day {ws} {ns} {rest} w n a h r =
       let small = day_small 2000 (decimal ws) (decimal ns) a in
       slash_item _ w (λ z. small_no_date ws (omega arith)) (month_day_read rest (blanks bs b (number_still _ w)) w n a h r)

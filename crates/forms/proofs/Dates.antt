@@ -1,5 +1,6 @@
 -- Each written form of 29.2 is read as exactly its date, up to what stands behind it. A number is any row of digits, and the date is one
 -- that the calendar has. Space may stand in front and between the parts; what may stand behind the date is a premise. Assumes nothing.
+use Rattle.std.specs.Prelude.{Some, None}
 use native.Mathlib.Omega.{arith}
 use borrow.Author.Tests.{le-leb, lt-leb, leb-true, ltb-true, ltb-false}
 use Prim.Native.Nat.{ℕ, zero, suc, ◌+◌, ◌-◌, ◌*◌, ◌<◌, ◌≤◌}
@@ -20,7 +21,6 @@ use Rattle.dates.specs.Year.{widened, year_from_str, year_str}
 use Rattle.dates.specs.Date.{date_of, exists, with_year, without_year, written, unwritten, dated, end_of_text, blank_or_end, ended, ended_year, dated_behind, dotted, iso1, five_digits, iso2, us_date, slash_part, us_rest, us}
 use Rattle.dates.specs.Date.{nothing as no_part}
 use Rattle.dates.specs.declared.date.Date.{Date}
-use Rattle.dates.specs.declared.date.DateYear.TheVariants.{Given, Absent}
 use Rattle.forms.proofs.Walk.{Reads, Fails, Spaces, ◌⟨◌⟩◌, ◌⟨◌⟩!◌, at_once, first, ◌or◌, ◌nor◌, nothing, verified, not_verified, behind_space, not_behind_space}
 use Rattle.forms.proofs.Leaves.{head, blank_no_digit, minus, plain, some_read, some_else, byte_read, number_read, number_head, number_still, str_read, str_else, still}
 use Rattle.primitive.proofs.Rows.{all, halves, Number}
@@ -48,7 +48,7 @@ pub record Year (ys : List ℕ) (m d : ℕ) : Type 0 where
   pub there : exists (widened ys) m d ≡ true
 
 abbrev pub in_year : List ℕ → ℕ → ℕ → Date
-in_year ys m d = date_of (Given (widened ys)) m d
+in_year ys m d = date_of (Some (widened ys)) m d
 
 -- ---- numbers and marks behind space
 
@@ -83,7 +83,7 @@ pub with_year_read : {ys l : List ℕ} {m d : ℕ} → Year ys m d → Reads (wi
 unfolding with_year year_from_str
 with_year_read {ys} a = verified (le-leb (widened ys) last_year a.last) ⟨ _ ⟩ verified a.there
 
-pub without_year_read : {m d : ℕ} {l : List ℕ} → exists 2000 m d ≡ true → Reads (without_year m d) l (date_of Absent m d) l
+pub without_year_read : {m d : ℕ} {l : List ℕ} → exists 2000 m d ≡ true → Reads (without_year m d) l (date_of None m d) l
 unfolding without_year
 without_year_read h = verified h
 
@@ -110,7 +110,7 @@ ending_no_digit (blanks_end b bs g h) = blank_no_digit b (halves (blank b) (all 
 -- what follows day and month behind what p reads: a year or none
 pub data YearOrNone (p : Reader (Unit {0})) (m d : ℕ) : List ℕ → Date → List ℕ → Type 0 where
   with_it : {l x y ys rest : List ℕ} → Reads p l tt x → Spaces x (ys ++ y) → Ending y rest → Year ys m d → YearOrNone p m d l (in_year ys m d) rest
-  without_it : {l : List ℕ} → Fails (p >> ended) l → exists 2000 m d ≡ true → YearOrNone p m d l (date_of Absent m d) l
+  without_it : {l : List ℕ} → Fails (p >> ended) l → exists 2000 m d ≡ true → YearOrNone p m d l (date_of None m d) l
 
 pub year_or_none : {p : Reader (Unit {0})} {m d : ℕ} {l rest : List ℕ} {v : Date} → YearOrNone p m d l v rest → Reads (dated_behind p m d) l v rest
 unfolding dated_behind ended_year ended dated
@@ -304,7 +304,7 @@ module _ {l ws ns vs rest : List ℕ} (s : Spaces l (ws ++ (47 ∷ (ns ++ (47 �
       (slash_part_read v h ⟨ us_date ws (decimal ns) ⟩ rw (le-leb 4 (length ws) k) (whole_read vs (omega arith) ⟨ _ ⟩ with_year_read a))
 
 -- Behind month/day stands no further slash with a number.
-pub month_day_read : {l ws ns : List ℕ} (rest : List ℕ) → Spaces l (ws ++ (47 ∷ (ns ++ rest))) → Number ws → Number ns → exists 2000 (decimal ws) (decimal ns) ≡ true → digit (head rest) ≡ false → Reads slash_part rest unwritten rest → Reads us l (date_of Absent (decimal ws) (decimal ns)) rest
+pub month_day_read : {l ws ns : List ℕ} (rest : List ℕ) → Spaces l (ws ++ (47 ∷ (ns ++ rest))) → Number ws → Number ns → exists 2000 (decimal ws) (decimal ns) ≡ true → digit (head rest) ≡ false → Reads slash_part rest unwritten rest → Reads us l (date_of None (decimal ws) (decimal ns)) rest
 unfolding us_rest us_date
 month_day_read {l} {ws} {ns} rest s w n a h r =
     let small = day_small 2000 (decimal ws) (decimal ns) a in

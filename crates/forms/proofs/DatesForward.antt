@@ -1,4 +1,5 @@
 -- Where a match of a date reader ends: never before the place asked, and within the text where that place is. Assumes nothing.
+use Rattle.std.specs.Prelude.{Some, None}
 use Prim.Native.Nat.{ℕ}
 use mathlib.Core.List.{List, [], ◌∷◌, ◌++◌}
 use lib.ListN.{length}
@@ -7,7 +8,6 @@ use Rattle.primitive.specs.Answer.{Reader, matched, none}
 use Rattle.primitive.specs.Text.{byte}
 use Rattle.primitive.specs.Primitive.{multispace1, spaced, dec_uint_str, dec_uint}
 use Rattle.primitive.proofs.Forward.{Forward, none_ends, if_ends, if_forward, then_forward, next_forward, or_forward, pure_forward, verify_forward, optional_forward, value_forward, tag_forward, named_forward, multispace1_forward, spaced_forward, dec_uint_str_forward, parse_uint_forward, dec_uint_forward, alpha1_forward}
-use Rattle.dates.specs.declared.date.DateYear.TheVariants.{Given, Absent}
 use Rattle.dates.specs.Year.{widened, year_from_str, year_str}
 use Rattle.dates.specs.Date.{date_of, exists, with_year, without_year, Written, written, unwritten, dated, end_of_text, blank_or_end, ended, ended_year, dated_behind, nothing, hyphen, comma, dotted, iso1, five_digits, iso2, us_date, slash_part, us_rest, us, months, word_dot, literal_month, literal1, literal2, literal3, literal, parse_non_iso}
 
@@ -21,11 +21,11 @@ year_str_forward = spaced_forward dec_uint_str dec_uint_str_forward
 
 with_year_forward : (w : List ℕ) (m d : ℕ) → Forward (with_year w m d)
 unfolding with_year
-with_year_forward w m d = then_forward (year_from_str w) _ (year_from_str_forward w) (λ y. verify_forward (exists y m d) (date_of (Given y) m d))
+with_year_forward w m d = then_forward (year_from_str w) _ (year_from_str_forward w) (λ y. verify_forward (exists y m d) (date_of (Some y) m d))
 
 without_year_forward : (m d : ℕ) → Forward (without_year m d)
 unfolding without_year
-without_year_forward m d = verify_forward (exists 2000 m d) (date_of Absent m d)
+without_year_forward m d = verify_forward (exists 2000 m d) (date_of None m d)
 
 dated_forward : (m d : ℕ) (y : Written) → Forward (dated y m d)
 unfolding dated

@@ -1,4 +1,6 @@
 -- The manual's worked examples, each by the theorem of its form: what the theorems ask for can be met. Assumes nothing.
+use Rattle.std.specs.Prelude.{Option, Some, None}
+use Rattle.times.specs.declared.offset.Offset.{Offset}
 use native.Mathlib.Omega.{arith}
 use borrow.Author.Tests.{ltb-true, leb-true}
 use Prim.Native.Nat.{ℕ}
@@ -16,10 +18,7 @@ use Rattle.primitive.specs.Epoch.{padded, nanoseconds}
 use Rattle.primitive.specs.Ordinal.{signed, ordinals}
 use Rattle.dates.specs.Year.{widened_by, widened}
 use Rattle.dates.specs.Date.{date_of, exists, months}
-use Rattle.dates.specs.declared.date.DateYear.TheVariants as year
 use Rattle.times.specs.Offset.{in_range}
-use Rattle.times.specs.declared.time.TimeOffset.{TimeOffset}
-use Rattle.times.specs.declared.time.TimeOffset.TheVariants.{Given, NotGiven}
 use Rattle.relative.specs.Relative.{rounded}
 use Rattle.relative.specs.declared.Relative.TheVariants.{Years, Days, Seconds}
 use Rattle.items.specs.Items.{parse_item}
@@ -54,7 +53,7 @@ year_of w m d h =
 
 -- 29.2: "All these strings specify the same calendar date"
 abbrev day : Item
-day = item.Date (date_of (year.Given 2020) 7 20)
+day = item.Date (date_of (Some 2020) 7 20)
 
 iso_day : Whole (bytes "2020-07-20") day
 unfolding bytes digit decimal widened_by exists leap month_days blank
@@ -102,7 +101,7 @@ named_day =
 
 -- 29.2: "The year can also be omitted."
 abbrev yearless : Item
-yearless = item.Date (date_of year.Absent 7 20)
+yearless = item.Date (date_of None 7 20)
 
 us_yearless : Whole (bytes "7/20") yearless
 unfolding bytes digit letter decimal widened_by exists leap month_days blank
@@ -115,29 +114,29 @@ named_yearless =
     (without_it (no_digit_year _ (no_comma_read (still (plain refl)) refl) (still (plain refl)) refl) refl)
 
 -- 29.3: "all of which represent the same time"
-abbrev clock : TimeOffset → Item
+abbrev clock : Option Offset → Item
 clock o = item.Time (record { hour = 20; minute = 2; second = 0; nanosecond = 0; offset = o })
 
-whole_time : Whole (bytes "20:02:00.000000") (clock NotGiven)
+whole_time : Whole (bytes "20:02:00.000000") (clock None)
 unfolding bytes digit decimal nanoseconds padded blank
 whole_time =
     time_24 [] refl (row (bytes "20") refl) (row (bytes "02") refl) (omega arith) (omega arith) refl
     (second_read refl (fractional_read false (row (bytes "00") refl) (omega arith) (row (bytes "000000") refl) refl) (omega arith)) (no_correction (no_sign_correction (still (plain refl)) refl refl))
     (λ z. meridiem_else (still (plain refl)) refl refl)
 
-short_time : Whole (bytes "20:02") (clock NotGiven)
+short_time : Whole (bytes "20:02") (clock None)
 unfolding bytes digit decimal blank
 short_time =
     time_24 [] refl (row (bytes "20") refl) (row (bytes "02") refl) (omega arith) (omega arith) refl
     (no_second (at_once _ (colon_else (still (plain refl)) refl))) (no_correction (no_sign_correction (still (plain refl)) refl refl)) (λ z. meridiem_else (still (plain refl)) refl refl)
 
-evening : Whole (bytes "8:02pm") (clock NotGiven)
+evening : Whole (bytes "8:02pm") (clock None)
 unfolding bytes digit decimal blank
 evening =
     time_12 [] refl (row (bytes "8") refl) (row (bytes "02") refl) (omega arith) (omega arith) (omega arith) refl
     (no_second (at_once _ (colon_else (still (plain refl)) refl))) (meridiem_read [] refl true false)
 
-zoned : Whole (bytes "20:02-0500") (clock (Given (record { negative = true; hours = 5; minutes = 0 })))
+zoned : Whole (bytes "20:02-0500") (clock (Some (record { negative = true; hours = 5; minutes = 0 })))
 unfolding bytes digit decimal in_range blank
 zoned =
     let s = still (minus refl) in
@@ -146,7 +145,7 @@ zoned =
     (λ z. meridiem_else s refl refl)
 
 -- 29.5: an ISO date, a `t`, an ISO time
-both_in_one : Whole (bytes "2022-09-06t14:19:13") (item.DateTime (record { date = date_of (year.Given 2022) 9 6; time = record { hour = 14; minute = 19; second = 13; nanosecond = 0; offset = NotGiven } }))
+both_in_one : Whole (bytes "2022-09-06t14:19:13") (item.DateTime (record { date = date_of (Some 2022) 9 6; time = record { hour = 14; minute = 19; second = 13; nanosecond = 0; offset = None } }))
 unfolding bytes digit letter decimal widened_by exists leap month_days blank
 both_in_one =
     combined_hyphens true refl
@@ -156,7 +155,7 @@ both_in_one =
     (no_meridiem [] [] refl refl refl refl)) [] refl (row (bytes "09") refl) (row (bytes "06") refl) (year_of (bytes "2022") 9 6 refl)
 
 -- the Rust reads a time in 12 hours there too
-evening_in_one : Whole (bytes "20220906 8 p.m.") (item.DateTime (record { date = date_of (year.Given 2022) 9 6; time = record { hour = 20; minute = 0; second = 0; nanosecond = 0; offset = NotGiven } }))
+evening_in_one : Whole (bytes "20220906 8 p.m.") (item.DateTime (record { date = date_of (Some 2022) 9 6; time = record { hour = 20; minute = 0; second = 0; nanosecond = 0; offset = None } }))
 unfolding bytes digit letter decimal widened_by exists leap month_days blank
 evening_in_one =
     let s = still (plain refl) in

@@ -1,5 +1,6 @@
 -- Each written form of 29.3 is read as exactly its time, up to what stands behind it. A number is any row of digits with a value in
 -- range; what may stand behind the time is a premise. Assumes nothing.
+use Rattle.std.specs.Prelude.{Option, Some, None}
 use native.Mathlib.Omega.{arith}
 use borrow.Author.Tests.{lt-ltb, le-leb, lt-leb, leb-true, ltb-true}
 use Prim.Native.Nat.{ℕ, ◌+◌, ◌/◌, ◌%◌, ◌<◌, ◌≤◌}
@@ -23,8 +24,6 @@ use Rattle.times.specs.Time.{below, hour24, hour12, minute, second, optional_sec
 use Rattle.times.specs.declared.offset.Offset.{Offset}
 use Rattle.times.specs.declared.time.Time.{Time}
 use Rattle.times.specs.declared.time.SecNsec.{SecNsec}
-use Rattle.times.specs.declared.time.TimeOffset.{TimeOffset}
-use Rattle.times.specs.declared.time.TimeOffset.TheVariants.{Given, NotGiven}
 
 -- ---- combinators of this crate
 
@@ -164,11 +163,11 @@ module _ (negative : Bool) (k n : ℕ) {l : List ℕ} where
   unfolding digits_offset offset_of
   hours_and_minutes_said h ok = rw (lt-leb k 2 h) (certain_so ok)
 
-pub correction_given : {l rest : List ℕ} {v : Offset} → Reads time_zone_correction l v rest → Reads optional_correction l (Given v) rest
+pub correction_given : {l rest : List ℕ} {v : Offset} → Reads time_zone_correction l v rest → Reads optional_correction l (Some v) rest
 unfolding optional_correction
-correction_given r = first _ (r ⟨ (λ o. pure (Given o)) ⟩ nothing)
+correction_given r = first _ (r ⟨ (λ o. pure (Some o)) ⟩ nothing)
 
-pub no_correction : {rest : List ℕ} → Fails time_zone_correction rest → Reads optional_correction rest NotGiven rest
+pub no_correction : {rest : List ℕ} → Fails time_zone_correction rest → Reads optional_correction rest None rest
 unfolding optional_correction
 no_correction a = at_once _ a or nothing
 
@@ -192,7 +191,7 @@ module _ {l m : List ℕ} (s : Spaces l m) (g : eqb (head m) 43 ≡ false) (h : 
 -- ---- 24 hours
 
 -- `20:02`, `20:02:00.5`, each with a correction or without one: the seconds and the correction are read from what stands behind the minutes
-module _ {x hs ms l m' rest : List ℕ} (i : Spaces x (hs ++ (58 ∷ (ms ++ l)))) (h : Number hs) (m : Number ms) (hour : decimal hs < 24) (minutes : decimal ms < 60) (d : digit (head l) ≡ false) {v : SecNsec} (s : Reads optional_second l v m') {o : TimeOffset} (c : Reads optional_correction m' o rest) where
+module _ {x hs ms l m' rest : List ℕ} (i : Spaces x (hs ++ (58 ∷ (ms ++ l)))) (h : Number hs) (m : Number ms) (hour : decimal hs < 24) (minutes : decimal ms < 60) (d : digit (head l) ≡ false) {v : SecNsec} (s : Reads optional_second l v m') {o : Option Offset} (c : Reads optional_correction m' o rest) where
   abbrev clocked : Time
   clocked = record { hour = decimal hs; minute = decimal ms; second = v.sec; nanosecond = v.nsec; offset = o }
 
@@ -275,6 +274,6 @@ module _ (bs : List ℕ) (b : all blank bs ≡ true) {rest : List ℕ} where
   meridiem_read true true = p_m_read bs b
 
 module _ {x hs l m' k rest : List ℕ} (i : Spaces x (hs ++ l)) (h : Number hs) (some_hour : 0 < decimal hs) (hour : decimal hs ≤ 12) (d : digit (head l) ≡ false) {mins : ℕ} (m : Reads optional_minute l mins m') {v : SecNsec} (s : Reads optional_second m' v k) {pm : Bool} (a : Reads meridiem k pm rest) where
-  pub half_day_item : Reads parse x (record { hour = decimal hs % 12 + if pm 12 0; minute = mins; second = v.sec; nanosecond = v.nsec; offset = NotGiven }) rest
+  pub half_day_item : Reads parse x (record { hour = decimal hs % 12 + if pm 12 0; minute = mins; second = v.sec; nanosecond = v.nsec; offset = None }) rest
   unfolding parse am_pm_time
   half_day_item = first iso (hour12_read i h d hour ⟨ _ ⟩ m ⟨ _ ⟩ s ⟨ _ ⟩ a ⟨ _ ⟩ certain_so (lt-ltb 0 (decimal hs) some_hour))

@@ -1,4 +1,5 @@
 -- Where an offset and a time end: never before the place asked, and within the text where that place is. Assumes nothing.
+use Rattle.std.specs.Prelude.{Some, None}
 use Prim.Native.Nat.{ℕ, ◌+◌, ◌/◌, ◌%◌}
 use mathlib.Core.Bool.{Bool}
 use lib.ListN.{length}
@@ -8,7 +9,6 @@ use Rattle.primitive.proofs.Forward.{Ends, Forward, none_ends, stop_ends, if_end
 use Rattle.times.specs.Offset.{certain, without, unless, in_range, offset_of, timezone_offset_colon, digits_offset, timezone_offset_colonless, any_offset, signed_fraction, time_zone_correction, timezone_offset}
 use Rattle.relative.specs.Relative.{parse as relative}
 use Rattle.times.specs.Time.{below, hour24, hour12, minute, second, optional_second, optional_minute, optional_correction, hour_offset, clock, iso, meridiem, am_pm_time, parse}
-use Rattle.times.specs.declared.time.TimeOffset.TheVariants.{Given, NotGiven}
 
 -- ---- combinators
 
@@ -94,7 +94,7 @@ optional_minute_forward = optional_forward _ _ (next_forward _ _ colon_forward m
 
 pub optional_correction_forward : Forward optional_correction
 unfolding optional_correction
-optional_correction_forward = optional_forward _ _ (then_forward _ _ time_zone_correction_forward (λ o. pure_forward (Given o)))
+optional_correction_forward = optional_forward _ _ (then_forward _ _ time_zone_correction_forward (λ o. pure_forward (Some o)))
 
 pub hour_offset_forward : Forward hour_offset
 unfolding hour_offset
@@ -128,7 +128,7 @@ am_pm_time_forward =
     (λ h. then_forward _ _ optional_minute_forward
     (λ m. then_forward _ _ optional_second_forward
     (λ v. then_forward _ _ meridiem_forward
-    (λ pm. certain_forward (ltb 0 h) (record { hour = h % 12 + if pm 12 0; minute = m; second = v.sec; nanosecond = v.nsec; offset = NotGiven })))))
+    (λ pm. certain_forward (ltb 0 h) (record { hour = h % 12 + if pm 12 0; minute = m; second = v.sec; nanosecond = v.nsec; offset = None })))))
 
 pub parse_forward : Forward parse
 unfolding parse

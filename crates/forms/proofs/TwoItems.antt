@@ -1,5 +1,6 @@
 -- A written moment and a number of seconds behind it: `2024-03-13 09:30:00.000000000+00:00 -5 seconds` is read as exactly these two items,
 -- and the moment alone as one. The numbers are any rows of digits whose values are in range. Assumes nothing.
+use Rattle.std.specs.Prelude.{Some}
 use native.Mathlib.Omega.{arith}
 use borrow.Author.Tests.{leb-true, lt-leb, ne_eqb}
 use Prim.Native.Nat.{ℕ, suc, ◌^◌, ◌<◌}
@@ -17,14 +18,12 @@ use Rattle.dates.specs.Year.{widened_by, widened}
 use Rattle.times.specs.Offset.{in_range}
 use Rattle.times.specs.Time.{iso}
 use Rattle.times.specs.declared.time.Time.{Time}
-use Rattle.times.specs.declared.time.TimeOffset.TheVariants as zone
 use Rattle.relative.specs.Relative.{rounded}
 use Rattle.relative.specs.declared.Relative.TheVariants.{Seconds}
 use Rattle.items.specs.Combined.{starts_with_meridiem}
 use Rattle.items.specs.Items.{iso_date, parse_item, ended, parse_items}
 use Rattle.items.specs.declared.Item.{Item}
 use Rattle.items.specs.declared.Item.TheVariants as item
-use Rattle.items.specs.declared.Slot.{Slot}
 use Rattle.forms.proofs.Walk.{Reads, Fails, Spaces, first, said}
 use Rattle.forms.proofs.Leaves.{head, plain, number_head, number_still, still, blanks, sign_of, fractional_read}
 use Rattle.primitive.proofs.Rows.{all, halves, Number}
@@ -79,7 +78,7 @@ time_of r = record {
   minute = decimal r.minute;
   second = decimal r.second;
   nanosecond = nanoseconds r.fraction;
-  offset = zone.Given (record { negative = r.negative; hours = decimal r.zone_hours; minutes = decimal r.zone_minutes });
+  offset = Some (record { negative = r.negative; hours = decimal r.zone_hours; minutes = decimal r.zone_minutes });
 }
 
 abbrev pub moment_item : Digits → Item
@@ -141,18 +140,18 @@ module _ (negative : Bool) {ns : List ℕ} (n : Number ns) (small : decimal ns <
 -- ---- the two theorems
 
 module _ (r : Digits) (a : Sound r) where
-  moment_first : {k : ℕ} {rest : List ℕ} {ys : List Slot} → digit (head rest) ≡ false → Fails starts_with_meridiem rest → Lists k (record { item = moment_item r } ∷ []) rest ys → Lists (suc k) [] (moment_text r rest) ys
+  moment_first : {k : ℕ} {rest : List ℕ} {ys : List Item} → digit (head rest) ≡ false → Fails starts_with_meridiem rest → Lists k (moment_item r ∷ []) rest ys → Lists (suc k) [] (moment_text r rest) ys
   moment_first d m l =
       let long = a.year.number.long in
       one_item (still (number_still _ a.year.number)) (simp length-append (omega arith)) (moment_item_lem r a d m) l
 
   -- The moment alone is one item.
-  pub one_item_text : parse_items (moment_text r []) ≡ ended (record { item = moment_item r } ∷ []) 0 0
+  pub one_item_text : parse_items (moment_text r []) ≡ ended (moment_item r ∷ []) 0 0
   unfolding parse_items digit blank
   one_item_text = (moment_first refl (no_meridiem [] [] refl refl refl refl) (no_more_items (still (plain refl)))).lists _ 0 refl
 
   -- The moment and a number of seconds, up to 9223372036854775807 either way, are two.
-  pub two_items_text : (negative : Bool) {ns : List ℕ} → Number ns → decimal ns < 2 ^ 63 → parse_items (moment_text r [] ++ shift_text negative ns) ≡ ended (record { item = moment_item r } ∷ record { item = item.Relative (Seconds (signed negative (decimal ns)) 0) } ∷ []) 0 0
+  pub two_items_text : (negative : Bool) {ns : List ℕ} → Number ns → decimal ns < 2 ^ 63 → parse_items (moment_text r [] ++ shift_text negative ns) ≡ ended (moment_item r ∷ item.Relative (Seconds (signed negative (decimal ns)) 0) ∷ []) 0 0
   unfolding parse_items digit blank
   two_items_text negative {ns} n small =
       simp append_assoc

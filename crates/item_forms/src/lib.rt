@@ -4,27 +4,25 @@
 
 ghost use Rattle.std.specs.Prelude.{◌≡◌};
 ghost use Rattle.primitive.specs.Text.{lowered};
-ghost use Rattle.dates.specs.Date.{date_answer};
-ghost use Rattle.items.specs.Items.{dated_item, iso_date, iso_item, relative_item, time_or_relative, other_item, parse_item, item_answer};
+ghost use Rattle.primitive.specs.Answer.{answer_of, stop_answer};
+ghost use Rattle.items.specs.Items.{dated_item, iso_date, iso_item, relative_item, time_or_relative, other_item, parse_item};
 
-use dates::date::{Date, ReadDate};
-use items::combined::ReadDateTime;
-use items::{Item, ReadItem};
-use relative::ReadRelative;
-use times::time::ReadTime;
+use dates::date::Date;
+use items::Item;
+use primitive::Miss;
 
 // The item at a place. The first byte behind the space says what it can be: below 48, the digit 0, it begins no date and no time, and above
 // 57, the digit 9, no ISO date.
 #[tactic(auto, using(items::proofs::Fronts::fronts))]
-pub fn parse_item(s: &[u8], at: usize) -> ReadItem
-    ensures { item_answer result ≡ parse_item (lowered s.now) at }
+pub fn parse_item(s: &[u8], at: usize) -> Result<(Item, usize), Miss>
+    ensures { stop_answer result ≡ parse_item (lowered s.now) at }
 {
     let start = spaces::space(s, at);
     if s.len() <= start {
-        return relative_item(s, start);
+        return relative_item(s, start).ok_or(Miss::NoMatch);
     }
     if s[start] < 48 {
-        return relative_item(s, start);
+        return relative_item(s, start).ok_or(Miss::NoMatch);
     }
     if 57 < s[start] {
         return other_item(s, at);
@@ -33,77 +31,69 @@ pub fn parse_item(s: &[u8], at: usize) -> ReadItem
 }
 
 // The same where it may begin with a number.
-#[tactic(auto, using(items::proofs::Chain::items), unfolding(items::specs::Items::parse_item))]
-fn number_item(s: &[u8], at: usize) -> ReadItem
-    ensures { item_answer result ≡ parse_item (lowered s.now) at }
+#[tactic(auto, unfolding(items::specs::Items::parse_item))]
+fn number_item(s: &[u8], at: usize) -> Result<(Item, usize), Miss>
+    ensures { stop_answer result ≡ parse_item (lowered s.now) at }
 {
     match iso_item(s, at) {
-        ReadItem::Match(v, next) => ReadItem::Match(v, next),
-        ReadItem::NoMatch => other_item(s, at),
-        ReadItem::Stop => ReadItem::Stop,
+        Err(Miss::NoMatch) => other_item(s, at),
+        read => read,
     }
 }
 
 // An ISO date, with a time or alone. The date is read once.
-#[tactic(auto, using(items::proofs::Chain::items), unfolding(items::specs::Items::iso_item))]
-fn iso_item(s: &[u8], at: usize) -> ReadItem
-    ensures { item_answer result ≡ iso_item (lowered s.now) at }
+#[tactic(auto, unfolding(items::specs::Items::iso_item))]
+fn iso_item(s: &[u8], at: usize) -> Result<(Item, usize), Miss>
+    ensures { stop_answer result ≡ iso_item (lowered s.now) at }
 {
-    let ReadDate::Match(date, next) = iso_date(s, at) else {
-        return ReadItem::NoMatch;
-    };
+    let (date, next) = iso_date(s, at).ok_or(Miss::NoMatch)?;
     dated_item(s, next, date)
 }
 
-#[tactic(auto, using(items::proofs::Chain::items), unfolding(items::specs::Items::iso_date))]
-fn iso_date(s: &[u8], at: usize) -> ReadDate
-    ensures { date_answer result ≡ iso_date (lowered s.now) at }
+#[tactic(auto, unfolding(items::specs::Items::iso_date))]
+fn iso_date(s: &[u8], at: usize) -> Option<(Date, usize)>
+    ensures { answer_of result ≡ iso_date (lowered s.now) at }
 {
-    if let ReadDate::Match(date, next) = date_forms::iso1(s, at) {
-        return ReadDate::Match(date, next);
-    }
-    date_forms::iso2(s, at)
+    date_forms::iso1(s, at).or_else(|| date_forms::iso2(s, at))
 }
 
 // A date with the time that follows it, or alone.
-#[tactic(auto, using(items::proofs::Chain::items), unfolding(items::specs::Items::dated_item, items::specs::Items::date_time_item))]
-fn dated_item(s: &[u8], at: usize, date: Date) -> ReadItem
-    ensures { item_answer result ≡ dated_item date (lowered s.now) at }
+#[tactic(auto, unfolding(items::specs::Items::dated_item, items::specs::Items::date_time_item))]
+fn dated_item(s: &[u8], at: usize, date: Date) -> Result<(Item, usize), Miss>
+    ensures { stop_answer result ≡ dated_item date (lowered s.now) at }
 {
     match items::combined::parse_time_after_date(s, at, date) {
-        ReadDateTime::Match(v, next) => ReadItem::Match(Item::DateTime(v), next),
-        ReadDateTime::NoMatch => ReadItem::Match(Item::Date(date), at),
-        ReadDateTime::Stop => ReadItem::Stop,
+        Ok((both, next)) => Ok((Item::DateTime(both), next)),
+        Err(Miss::NoMatch) => Ok((Item::Date(date), at)),
+        Err(Miss::Stop) => Err(Miss::Stop),
     }
 }
 
-#[tactic(auto, using(items::proofs::Chain::items), unfolding(items::specs::Items::other_item, items::specs::Items::date_item))]
-fn other_item(s: &[u8], at: usize) -> ReadItem
-    ensures { item_answer result ≡ other_item (lowered s.now) at }
+#[tactic(auto, unfolding(items::specs::Items::other_item, items::specs::Items::date_item))]
+fn other_item(s: &[u8], at: usize) -> Result<(Item, usize), Miss>
+    ensures { stop_answer result ≡ other_item (lowered s.now) at }
 {
-    let ReadDate::Match(date, next) = date_forms::parse_non_iso(s, at) else {
-        return time_or_relative(s, at);
-    };
-    ReadItem::Match(Item::Date(date), next)
+    match date_forms::parse_non_iso(s, at) {
+        Some((date, next)) => Ok((Item::Date(date), next)),
+        None => time_or_relative(s, at),
+    }
 }
 
-#[tactic(auto, using(items::proofs::Chain::items), unfolding(items::specs::Items::time_or_relative, items::specs::Items::time_item))]
-fn time_or_relative(s: &[u8], at: usize) -> ReadItem
-    ensures { item_answer result ≡ time_or_relative (lowered s.now) at }
+#[tactic(auto, unfolding(items::specs::Items::time_or_relative, items::specs::Items::time_item))]
+fn time_or_relative(s: &[u8], at: usize) -> Result<(Item, usize), Miss>
+    ensures { stop_answer result ≡ time_or_relative (lowered s.now) at }
 {
     match time_forms::parse(s, at) {
-        ReadTime::Match(t, next) => ReadItem::Match(Item::Time(t), next),
-        ReadTime::NoMatch => relative_item(s, at),
-        ReadTime::Stop => ReadItem::Stop,
+        Ok((time, next)) => Ok((Item::Time(time), next)),
+        Err(Miss::NoMatch) => relative_item(s, at).ok_or(Miss::NoMatch),
+        Err(miss) => Err(miss),
     }
 }
 
-#[tactic(auto, using(items::proofs::Chain::items), unfolding(items::specs::Items::relative_item))]
-fn relative_item(s: &[u8], at: usize) -> ReadItem
-    ensures { item_answer result ≡ relative_item (lowered s.now) at }
+#[tactic(auto, unfolding(items::specs::Items::relative_item))]
+fn relative_item(s: &[u8], at: usize) -> Option<(Item, usize)>
+    ensures { answer_of result ≡ relative_item (lowered s.now) at }
 {
-    let ReadRelative::Match(v, next) = relative_forms::parse(s, at) else {
-        return ReadItem::NoMatch;
-    };
-    ReadItem::Match(Item::Relative(v), next)
+    let (relative, next) = relative_forms::parse(s, at)?;
+    Some((Item::Relative(relative), next))
 }

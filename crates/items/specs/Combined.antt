@@ -8,8 +8,6 @@ use Rattle.times.specs.Time.{iso, parse}
 use Rattle.times.specs.declared.time.Time.{Time}
 use Rattle.dates.specs.declared.date.Date.{Date}
 use Rattle.items.specs.declared.combined.DateTime.{DateTime}
-use Rattle.items.specs.declared.combined.ReadDateTime.{ReadDateTime}
-use Rattle.items.specs.declared.combined.ReadDateTime.TheVariants as got
 
 -- a reader whose stop is no match
 abbrev pub unstopped : {A : Type 0} → Answer A → Answer A
@@ -51,10 +49,3 @@ parse_time_after_date d = do
   separator
   t ← combined_time
   pure (record { date = d; time = t })
-
--- ---- the code's answer
-
-abbrev pub date_time_answer : ReadDateTime → Answer DateTime
-date_time_answer (got.Match v n) = matched v n
-date_time_answer got.NoMatch = none
-date_time_answer got.Stop = stop

@@ -11,9 +11,6 @@ use Rattle.items.specs.declared.Day.{Day}
 use Rattle.items.specs.declared.Day.TheVariants as day
 use Rattle.items.specs.declared.Item.{Item}
 use Rattle.items.specs.declared.Item.TheVariants as item
-use Rattle.items.specs.declared.Slot.{Slot}
-use Rattle.items.specs.declared.ReadItem.{ReadItem}
-use Rattle.items.specs.declared.ReadItem.TheVariants as got
 
 -- days from Monday, 0
 abbrev pub day_index : Day → ℕ
@@ -71,34 +68,27 @@ parse_item = iso_item <|> other_item
 
 -- the items of a text, and how the reading ended: 0 at the end of the text, else a refusal and its place
 pub record Parsed : Type 0 where
-  pub items : List Slot
+  pub items : List Item
   pub number : ℕ
   pub place : ℕ
 
-abbrev pub ended : List Slot → ℕ → ℕ → Parsed
+abbrev pub ended : List Item → ℕ → ℕ → Parsed
 ended xs number place = record { items = xs; number = number; place = place }
 
 -- Document 01: 3 where no reader matches, 4 where one stops, both at the end of the item before.
-abbrev pub further : Answer Item → List Slot → ℕ → (Item → ℕ → Parsed) → Parsed
+abbrev pub further : Answer Item → List Item → ℕ → (Item → ℕ → Parsed) → Parsed
 further (matched v n) xs at f = f v n
 further none xs at f = ended xs 3 at
 further stop xs at f = ended xs 4 at
 
 -- Document 01, items/mod.rs: the end of text is tried before each item. Behind the items xs there is room for so many more; 1 where one
 -- is read beyond them.
-unfoldable pub items_from : ℕ → List Slot → List ℕ → ℕ → Parsed
+unfoldable pub items_from : ℕ → List Item → List ℕ → ℕ → Parsed
 items_from zero xs text at =
     if (ltb (space text at) (length text)) (further (parse_item text at) xs at (λ v n. ended xs 1 0)) (ended xs 0 0)
 items_from (suc room) xs text at =
     if (ltb (space text at) (length text))
-    (further (parse_item text at) xs at (λ v n. items_from room (xs ++ (record { item = v } ∷ [])) text n)) (ended xs 0 0)
+    (further (parse_item text at) xs at (λ v n. items_from room (xs ++ (v ∷ [])) text n)) (ended xs 0 0)
 
 unfoldable pub parse_items : List ℕ → Parsed
 parse_items text = items_from 64 [] text 0
-
--- ---- the code's answers
-
-abbrev pub item_answer : ReadItem → Answer Item
-item_answer (got.Match v n) = matched v n
-item_answer got.NoMatch = none
-item_answer got.Stop = stop

@@ -3,7 +3,7 @@
 use Rattle.std.specs.Prelude.{ℕ, ◌+◌, ◌-◌, ◌^◌, List, [], ◌∷◌, Bool, true, false, not, ltb, eqb, ℤ, pos, neg_ℤ, ◌*ℤ◌}
 use Prim.Native.String.{String}
 use Rattle.std.specs.Int.Signed.{mag}
-use Rattle.primitive.specs.Answer.{Answer, Reader, matched, none, if, ◌>>=◌, ◌>>◌, ◌<|>◌, pure, value, optional, verify}
+use Rattle.primitive.specs.Answer.{Reader, if, ◌>>=◌, ◌>>◌, ◌<|>◌, pure, value, optional, verify}
 use Rattle.primitive.specs.Text.{quoted}
 use Rattle.primitive.specs.Primitive.{spaced, plus_or_minus, alpha1, named}
 use Rattle.primitive.specs.Epoch.{sec_and_nsec}
@@ -11,8 +11,6 @@ use Rattle.primitive.specs.Ordinal.{signed, ordinal}
 use Rattle.primitive.specs.declared.SecAndNsec.{SecAndNsec}
 use Rattle.relative.specs.declared.Relative.{Relative}
 use Rattle.relative.specs.declared.Relative.TheVariants.{Years, Months, Days, Hours, Minutes, Seconds}
-use Rattle.relative.specs.declared.ReadRelative.{ReadRelative}
-use Rattle.relative.specs.declared.ReadRelative.TheVariants as got
 
 -- ---- which way
 
@@ -95,9 +93,3 @@ displacement = do
 -- outside its domain.
 unfoldable pub parse : Reader Relative
 parse = seconds <|> displacement
-
--- ---- the code's answer
-
-abbrev pub relative_answer : ReadRelative → Answer Relative
-relative_answer (got.Match v n) = matched v n
-relative_answer got.NoMatch = none

@@ -16,8 +16,7 @@ use Rattle.times.specs.Time.{below, hour24, hour12, minute, second, optional_sec
 use Rattle.times.specs.declared.offset.Offset.{Offset}
 use Rattle.times.specs.declared.offset.Normalized.{Normalized}
 use Rattle.times.specs.declared.time.Time.{Time}
-use Rattle.times.specs.declared.time.TimeOffset.{TimeOffset}
-use Rattle.times.specs.declared.time.TimeOffset.TheVariants.{Given, NotGiven}
+use Rattle.std.specs.Prelude.{Option, Some, None}
 
 -- what a reader makes of a quoted text, from its start
 abbrev reads : {A : Type 0} → Reader A → String → Answer A
@@ -30,7 +29,7 @@ east h m = record { negative = false; hours = h; minutes = m }
 abbrev west : ℕ → ℕ → Offset
 west h m = record { negative = true; hours = h; minutes = m }
 
-abbrev at_time : ℕ → ℕ → ℕ → ℕ → TimeOffset → Time
+abbrev at_time : ℕ → ℕ → ℕ → ℕ → Option Offset → Time
 at_time h m s n o = record { hour = h; minute = m; second = s; nanosecond = n; offset = o }
 
 abbrev adjusted : Offset → ℤ → Normalized
@@ -73,22 +72,22 @@ unfolding lower lowered bytes blank digit letter run past some starts tag multis
 yields = (refl, refl, refl, refl, refl, refl, refl, refl, refl, refl)
 
 -- 29.3: the manual's four examples, all of the same time, and midnight and noon.
-manual : (reads parse "20:02:00.000000" ≡ matched (at_time 20 2 0 0 NotGiven) 15) × (reads parse "20:02" ≡ matched (at_time 20 2 0 0 NotGiven) 5)
-    × (reads parse "8:02pm" ≡ matched (at_time 20 2 0 0 NotGiven) 6) × (reads parse "20:02-0500" ≡ matched (at_time 20 2 0 0 (Given (west 5 0))) 10)
-    × (reads parse "12am" ≡ matched (at_time 0 0 0 0 NotGiven) 4) × (reads parse "12pm" ≡ matched (at_time 12 0 0 0 NotGiven) 4)
-    × (reads parse "20:02:00.052-05:00" ≡ matched (at_time 20 2 0 52000000 (Given (west 5 0))) 18)
-    × (reads parse "23:59:59,999999999+11:00" ≡ matched (at_time 23 59 59 999999999 (Given (east 11 0))) 24)
+manual : (reads parse "20:02:00.000000" ≡ matched (at_time 20 2 0 0 None) 15) × (reads parse "20:02" ≡ matched (at_time 20 2 0 0 None) 5)
+    × (reads parse "8:02pm" ≡ matched (at_time 20 2 0 0 None) 6) × (reads parse "20:02-0500" ≡ matched (at_time 20 2 0 0 (Some (west 5 0))) 10)
+    × (reads parse "12am" ≡ matched (at_time 0 0 0 0 None) 4) × (reads parse "12pm" ≡ matched (at_time 12 0 0 0 None) 4)
+    × (reads parse "20:02:00.052-05:00" ≡ matched (at_time 20 2 0 52000000 (Some (west 5 0))) 18)
+    × (reads parse "23:59:59,999999999+11:00" ≡ matched (at_time 23 59 59 999999999 (Some (east 11 0))) 24)
 unfolding lower lowered bytes blank digit letter run past some starts tag multispace0 closing inside comment no_digit sign ignored_hyphen_or_plus ignored skip space decimal parse_uint dec_uint_str dec_uint colon plus_or_minus alpha1 same named padded nanoseconds point_or_comma fraction sec_and_nsec signed signed_number ordinals text_ordinal number_ordinal ordinal direction rounded second_words second_word signed_seconds seconds days units stripped in_unit displaced displacement relative in_range offset_of timezone_offset_colon digits_offset timezone_offset_colonless any_offset signed_fraction time_zone_correction timezone_offset below hour24 hour12 minute second optional_second optional_minute optional_correction hour_offset clock iso meridiem am_pm_time parse
 manual = (refl, refl, refl, refl, refl, refl, refl, refl)
 
 -- Document 01, items/time.rs: hour 0 with am or pm stops; ":60" is left unread. The spellings of am and pm.
-corners : (reads parse "0am" ≡ stop) × (reads parse "00:30 p.m." ≡ stop) × (reads parse "10:00:60" ≡ matched (at_time 10 0 0 0 NotGiven) 5)
-    × (reads parse "1 a.m." ≡ matched (at_time 1 0 0 0 NotGiven) 6) × (reads parse "11:59:59.5P.M." ≡ matched (at_time 23 59 59 500000000 NotGiven) 14)
-    × (reads parse "13:00pm" ≡ matched (at_time 13 0 0 0 NotGiven) 5) × (reads parse "24:00" ≡ none) × (reads parse "10:60" ≡ none)
-    × (reads parse "10:00 +2 hours" ≡ matched (at_time 10 0 0 0 (Given (east 2 0))) 8) × (reads parse "10 +2 hours" ≡ none)
-    × (reads parse "10 +2" ≡ matched (at_time 10 0 0 0 (Given (east 2 0))) 5) × (reads parse "10:00 +24:01" ≡ stop) × (reads parse "10 +24:01" ≡ stop)
-    × (reads parse "10:00:60 +24:01" ≡ matched (at_time 10 0 0 0 NotGiven) 5) × (reads parse "10:00 +1.5 seconds" ≡ matched (at_time 10 0 0 0 NotGiven) 5)
-    × (reads parse "10" ≡ none) × (reads parse "256:00" ≡ none) × (reads parse "3:04:05am" ≡ matched (at_time 3 4 5 0 NotGiven) 9)
-    × (reads parse "3amx" ≡ matched (at_time 3 0 0 0 NotGiven) 3) × (reads parse "" ≡ none)
+corners : (reads parse "0am" ≡ stop) × (reads parse "00:30 p.m." ≡ stop) × (reads parse "10:00:60" ≡ matched (at_time 10 0 0 0 None) 5)
+    × (reads parse "1 a.m." ≡ matched (at_time 1 0 0 0 None) 6) × (reads parse "11:59:59.5P.M." ≡ matched (at_time 23 59 59 500000000 None) 14)
+    × (reads parse "13:00pm" ≡ matched (at_time 13 0 0 0 None) 5) × (reads parse "24:00" ≡ none) × (reads parse "10:60" ≡ none)
+    × (reads parse "10:00 +2 hours" ≡ matched (at_time 10 0 0 0 (Some (east 2 0))) 8) × (reads parse "10 +2 hours" ≡ none)
+    × (reads parse "10 +2" ≡ matched (at_time 10 0 0 0 (Some (east 2 0))) 5) × (reads parse "10:00 +24:01" ≡ stop) × (reads parse "10 +24:01" ≡ stop)
+    × (reads parse "10:00:60 +24:01" ≡ matched (at_time 10 0 0 0 None) 5) × (reads parse "10:00 +1.5 seconds" ≡ matched (at_time 10 0 0 0 None) 5)
+    × (reads parse "10" ≡ none) × (reads parse "256:00" ≡ none) × (reads parse "3:04:05am" ≡ matched (at_time 3 4 5 0 None) 9)
+    × (reads parse "3amx" ≡ matched (at_time 3 0 0 0 None) 3) × (reads parse "" ≡ none)
 unfolding lower lowered bytes blank digit letter run past some starts tag multispace0 closing inside comment no_digit sign ignored_hyphen_or_plus ignored skip space decimal parse_uint dec_uint_str dec_uint colon plus_or_minus alpha1 same named padded nanoseconds point_or_comma fraction sec_and_nsec signed signed_number ordinals text_ordinal number_ordinal ordinal direction rounded second_words second_word signed_seconds seconds days units stripped in_unit displaced displacement relative in_range offset_of timezone_offset_colon digits_offset timezone_offset_colonless any_offset signed_fraction time_zone_correction timezone_offset below hour24 hour12 minute second optional_second optional_minute optional_correction hour_offset clock iso meridiem am_pm_time parse
 corners = (refl, refl, refl, refl, refl, refl, refl, refl, refl, refl, refl, refl, refl, refl, refl, refl, refl, refl, refl, refl)

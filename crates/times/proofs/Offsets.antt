@@ -10,13 +10,12 @@ use lib.Seq.{slice}
 use lib.Dec.{ltb, leb, eqb}
 use Rattle.primitive.specs.Answer.{Answer, matched, stop, if}
 use Rattle.primitive.specs.Text.{lowered}
-use Rattle.primitive.specs.Primitive.{dec_uint_str, slice_answer}
-use Rattle.primitive.specs.declared.ReadPlace.{ReadPlace}
-use Rattle.primitive.specs.declared.ReadPlace.TheVariants as place
-use Rattle.primitive.proofs.Limits.{digits_length}
+use Rattle.primitive.specs.Primitive.{dec_uint_str}
+use Rattle.primitive.proofs.Limits.{digits_length, limits}
+use Rattle.relative.proofs.Chain.{relatives}
 use Rattle.times.specs.Offset.{in_range, offset_of, digits_offset}
 use Rattle.times.specs.declared.offset.Offset.{Offset}
-use Rattle.times.proofs.Chain.{stops}
+use Rattle.times.proofs.Chain.{nothing_left}
 
 clash : ◌≡◌ {A = ℕ} 0 1 → ⊥
 clash z = omega arith
@@ -94,8 +93,8 @@ digits_anywhere q negative digits n text next e = e ∙ go (leb digits 2)
     go false = refl
 
 -- as many digits as the places from their start to their end
-pub digits_counted : (s : List ℕ) (start end : ℕ) (r : ReadPlace) (q : Answer Offset) (negative : Bool) (n next : ℕ) → r ≡ place.Match end → slice_answer (lowered s) start r ≡ dec_uint_str (lowered s) start → q ≡ digits_offset negative (end - start) n [] next → q ≡ digits_offset negative (length (slice start end (lowered s))) n (lowered s) next
-digits_counted s start end r q negative n next k e f =
-    rw (digits_length s start end r k e) (digits_anywhere q negative (end - start) n (lowered s) next f)
+pub digits_counted : (s : List ℕ) (start end : ℕ) (q : Answer Offset) (negative : Bool) (n next : ℕ) → matched (slice start end (lowered s)) end ≡ dec_uint_str (lowered s) start → q ≡ digits_offset negative (end - start) n [] next → q ≡ digits_offset negative (length (slice start end (lowered s))) n (lowered s) next
+digits_counted s start end q negative n next e f =
+    rw (digits_length s start end e) (digits_anywhere q negative (end - start) n (lowered s) next f)
 
-pub ruleset offsets = (too_many_hours, too_many_minutes, full_day, part_of_day, offset_in, offset_out, offset_anywhere, hours_alone, hours_and_minutes, digits_counted, stops)
+pub ruleset offsets = (too_many_hours, too_many_minutes, full_day, part_of_day, offset_in, offset_out, offset_anywhere, hours_alone, hours_and_minutes, digits_counted, nothing_left, limits, relatives)

@@ -7,8 +7,9 @@ use mathlib.Core.Bool.{Bool}
 use lib.Dec.{ltb}
 use Rattle.primitive.specs.Answer.{Answer, matched, none, stop, if}
 use Rattle.times.specs.declared.time.Time.{Time}
-use Rattle.times.specs.declared.time.TimeOffset.TheVariants.{NotGiven}
-use Rattle.times.proofs.Chain.{clocks}
+use Rattle.std.specs.Prelude.{None}
+use Rattle.primitive.proofs.Limits.{limits}
+use Rattle.relative.proofs.Chain.{relatives}
 
 module _ {A : Type 0} (v k : ℕ) (u : A) (n : ℕ) where
   pub below_limit : v < k → matched u n ≡ if (ltb v k) (matched u n) none
@@ -22,8 +23,8 @@ module _ (hour next : ℕ) where
   no_hour t h = rw h
 
   pub some_hour : (h minute second nanosecond : ℕ) (pm : Bool) → h ≡ hour % 12 + if pm 12 0 → (hour ≡ 0 → ⊥)
-      → ◌≡◌ {A = Answer Time} (matched (record { hour = h; minute = minute; second = second; nanosecond = nanosecond; offset = NotGiven }) next)
-      (if (ltb 0 hour) (matched (record { hour = hour % 12 + if pm 12 0; minute = minute; second = second; nanosecond = nanosecond; offset = NotGiven }) next) stop)
+      → ◌≡◌ {A = Answer Time} (matched (record { hour = h; minute = minute; second = second; nanosecond = nanosecond; offset = None }) next)
+      (if (ltb 0 hour) (matched (record { hour = hour % 12 + if pm 12 0; minute = minute; second = second; nanosecond = nanosecond; offset = None }) next) stop)
   some_hour h minute second nanosecond pm e n = rw (lt-ltb 0 hour (omega arith), e)
 
-pub ruleset times = (below_limit, beyond_limit, no_hour, some_hour, clocks)
+pub ruleset times = (below_limit, beyond_limit, no_hour, some_hour, limits, relatives)

@@ -8,8 +8,6 @@ use Rattle.primitive.specs.Ordinal.{signed}
 use Rattle.relative.specs.Relative.{parse}
 use Rattle.times.specs.declared.offset.Offset.{Offset}
 use Rattle.times.specs.declared.offset.Normalized.{Normalized}
-use Rattle.times.specs.declared.offset.ReadOffset.{ReadOffset}
-use Rattle.times.specs.declared.offset.ReadOffset.TheVariants as got
 
 -- nothing is read, and the value is v where a test passes; where it fails there is a stop
 abbrev pub certain : {A : Type 0} → Bool → A → Reader A
@@ -91,10 +89,3 @@ time_zone_correction = unless signed_fraction any_offset
 -- Document 01, items/offset.rs: `timezone_offset` yields to a relative item: "+8 years" is no offset.
 unfoldable pub timezone_offset : Reader Offset
 timezone_offset = unless parse any_offset
-
--- ---- the code's answer
-
-abbrev pub offset_answer : ReadOffset → Answer Offset
-offset_answer (got.Match v n) = matched v n
-offset_answer got.NoMatch = none
-offset_answer got.Stop = stop

@@ -1,22 +1,13 @@
 -- Times of day, in the order of items/time.rs. 29.3: "A time of day item in date strings specifies the time on a given day."
-use Rattle.std.specs.Prelude.{ℕ, ◌+◌, ◌%◌, Bool, true, false, ltb}
-use Rattle.primitive.specs.Answer.{Answer, Reader, matched, none, stop, if, ◌>>=◌, ◌>>◌, ◌<|>◌, pure, value, optional, verify}
+use Rattle.std.specs.Prelude.{ℕ, ◌+◌, ◌%◌, Bool, true, false, ltb, Option, Some, None}
+use Rattle.primitive.specs.Answer.{Reader, if, ◌>>=◌, ◌>>◌, ◌<|>◌, pure, value, optional, verify}
 use Rattle.primitive.specs.Text.{quoted}
 use Rattle.primitive.specs.Primitive.{spaced, colon, dec_uint}
 use Rattle.primitive.specs.Epoch.{sec_and_nsec}
 use Rattle.times.specs.Offset.{certain, time_zone_correction, timezone_offset}
+use Rattle.times.specs.declared.offset.Offset.{Offset}
 use Rattle.times.specs.declared.time.Time.{Time}
-use Rattle.times.specs.declared.time.TimeOffset.{TimeOffset}
-use Rattle.times.specs.declared.time.TimeOffset.TheVariants.{Given, NotGiven}
 use Rattle.times.specs.declared.time.SecNsec.{SecNsec}
-use Rattle.times.specs.declared.time.ReadTime.{ReadTime}
-use Rattle.times.specs.declared.time.ReadTime.TheVariants as got
-use Rattle.times.specs.declared.time.ReadSecNsec.{ReadSecNsec}
-use Rattle.times.specs.declared.time.ReadSecNsec.TheVariants as seconds
-use Rattle.times.specs.declared.time.ReadMeridiem.{ReadMeridiem}
-use Rattle.times.specs.declared.time.ReadMeridiem.TheVariants as meridiem_read
-use Rattle.times.specs.declared.time.ReadTimeOffset.{ReadTimeOffset}
-use Rattle.times.specs.declared.time.ReadTimeOffset.TheVariants as Offset-read
 
 -- ---- hours, minutes, seconds
 
@@ -55,17 +46,17 @@ optional_minute = optional 0 (colon >> minute)
 -- ---- 24 hours
 
 -- 29.3: a correction, or none; one that stops is not mended
-unfoldable pub optional_correction : Reader TimeOffset
-optional_correction = optional NotGiven (do
+unfoldable pub optional_correction : Reader (Option Offset)
+optional_correction = optional None (do
   o ← time_zone_correction
-  pure (Given o))
+  pure (Some o))
 
 -- an hour and an offset, which the manual does not have: "20 +1"
 unfoldable pub hour_offset : Reader Time
 hour_offset = do
   h ← hour24
   o ← timezone_offset
-  pure (record { hour = h; minute = 0; second = 0; nanosecond = 0; offset = Given o })
+  pure (record { hour = h; minute = 0; second = 0; nanosecond = 0; offset = Some o })
 
 -- 29.3: "the time of day may be given as 'HOUR:MINUTE:SECOND'"
 unfoldable pub clock : Reader Time
@@ -96,7 +87,7 @@ am_pm_time = do
   m ← optional_minute
   v ← optional_second
   pm ← meridiem
-  certain (ltb 0 h) (record { hour = h % 12 + if pm 12 0; minute = m; second = v.sec; nanosecond = v.nsec; offset = NotGiven })
+  certain (ltb 0 h) (record { hour = h % 12 + if pm 12 0; minute = m; second = v.sec; nanosecond = v.nsec; offset = None })
 
 unfoldable pub parse : Reader Time
 parse = am_pm_time <|> iso
@@ -106,7 +97,7 @@ parse = am_pm_time <|> iso
 abbrev pub offset_behind : ℕ → Reader Time
 offset_behind h = do
   o ← timezone_offset
-  pure (record { hour = h; minute = 0; second = 0; nanosecond = 0; offset = Given o })
+  pure (record { hour = h; minute = 0; second = 0; nanosecond = 0; offset = Some o })
 
 abbrev pub minutes_behind : ℕ → Reader Time
 minutes_behind h = do
@@ -114,22 +105,3 @@ minutes_behind h = do
   v ← optional_second
   o ← optional_correction
   pure (record { hour = h; minute = m; second = v.sec; nanosecond = v.nsec; offset = o })
-
--- ---- the code's answers
-
-abbrev pub time_answer : ReadTime → Answer Time
-time_answer (got.Match v n) = matched v n
-time_answer got.NoMatch = none
-time_answer got.Stop = stop
-
-abbrev pub sec_nsec_answer : ReadSecNsec → Answer SecNsec
-sec_nsec_answer (seconds.Match v n) = matched v n
-sec_nsec_answer seconds.NoMatch = none
-
-abbrev pub meridiem_answer : ReadMeridiem → Answer Bool
-meridiem_answer (meridiem_read.Match v n) = matched v n
-meridiem_answer meridiem_read.NoMatch = none
-
-abbrev pub time_offset_answer : ReadTimeOffset → Answer TimeOffset
-time_offset_answer (Offset-read.Match v n) = matched v n
-time_offset_answer Offset-read.Stop = stop

@@ -1,4 +1,6 @@
 // Offsets from UTC, as in items/offset.rs: hours and minutes, which of them are read, and what they come to.
+//
+// Numbers are widened by `as` in sums and products, where `from` in each term is no plainer; that one fits where `as` narrows it is proved.
 
 ghost use Rattle.std.specs.Prelude.{◌≡◌, ◌<◌};
 ghost use Rattle.times.specs.Offset.{in_range, moved, normalized, total_seconds};
@@ -16,14 +18,6 @@ pub struct Offset {
 pub struct Normalized {
     pub offset: Offset,
     pub hour_adjustment: i64,
-}
-
-// An offset, and where it ends.
-#[derive(Clone, Copy)]
-pub enum ReadOffset {
-    Match(Offset, usize),
-    NoMatch,
-    Stop,
 }
 
 impl Offset {

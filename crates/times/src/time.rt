@@ -1,13 +1,6 @@
-// What the readers of times of day answer.
+// Times of day, and the seconds of one.
 
 use crate::offset::Offset;
-
-// The offset of a time, if it has one.
-#[derive(Clone, Copy)]
-pub enum TimeOffset {
-    Given(Offset),
-    NotGiven,
-}
 
 #[derive(Clone, Copy)]
 pub struct Time {
@@ -15,15 +8,7 @@ pub struct Time {
     pub minute: u8,
     pub second: u8,
     pub nanosecond: u32,
-    pub offset: TimeOffset,
-}
-
-// A time, and where it ends.
-#[derive(Clone, Copy)]
-pub enum ReadTime {
-    Match(Time, usize),
-    NoMatch,
-    Stop,
+    pub offset: Option<Offset>,
 }
 
 // Seconds below 60.
@@ -31,38 +16,4 @@ pub enum ReadTime {
 pub struct SecNsec {
     pub sec: u8,
     pub nsec: u32,
-}
-
-#[derive(Clone, Copy)]
-pub enum ReadSecNsec {
-    Match(SecNsec, usize),
-    NoMatch,
-}
-
-// Whether a time is after noon.
-#[derive(Clone, Copy)]
-pub enum ReadMeridiem {
-    Match(bool, usize),
-    NoMatch,
-}
-
-// The offset behind a time, which may be none.
-#[derive(Clone, Copy)]
-pub enum ReadTimeOffset {
-    Match(TimeOffset, usize),
-    Stop,
-}
-
-// Minutes, or 0 where there are none.
-#[derive(Clone, Copy)]
-pub struct FoundMinute {
-    pub minute: u8,
-    pub next: usize,
-}
-
-// Seconds, or 0 where there are none.
-#[derive(Clone, Copy)]
-pub struct FoundSecond {
-    pub value: SecNsec,
-    pub next: usize,
 }

@@ -1,4 +1,4 @@
--- `second_word` is its definition's chain: space, letters, and their index in the table. Assumes nothing.
+-- `second_word` is its definition's chain: space, letters, and their index in the table.
 use mathlib.Core.Path.{refl}
 use Rattle.primitive.proofs.Tables.{keys, values, word_in, word_out}
 use Rattle.relative.proofs.Chain.{relatives}
@@ -7,18 +7,18 @@ use Rattle.primitive.specs.Text.{bytes}
 use Rattle.primitive.specs.Primitive.{words}
 use Rattle.relative.proofs.second_word.Goals as goal
 
-pub returns-in_default : goal.returns-in_default
+pub returns-in_err-end : goal.returns-in_err-end
 unfolding second_word
-returns-in_default c = rw (← c.space-start.ensures) (search relatives)
+returns-in_err-end c = search relatives
 
 pub returns-then-k-lt4 : goal.returns-then-k-lt4
 unfolding second_word second_words bytes words keys values
 returns-then-k-lt4 c =
     rw (← c.space-start.ensures)
-    (word_in second_words _ refl tt _ _ _ _ _ c.alpha1.ensures c.in-Match.is _ c.find_word-k.ensures c.if-k-lt4.true)
+    (word_in second_words _ refl tt _ _ _ _ c.in_ok-end.ensures _ c.find_word-k.ensures c.if-k-lt4.true)
 
 pub returns-else-k-lt4 : goal.returns-else-k-lt4
 unfolding second_word second_words bytes words keys
 returns-else-k-lt4 c =
     rw (← c.space-start.ensures)
-    (word_out second_words _ refl tt _ _ _ _ _ c.alpha1.ensures c.in-Match.is _ c.find_word-k.ensures c.if-k-lt4.false)
+    (word_out second_words _ refl tt _ _ _ _ c.in_ok-end.ensures _ c.find_word-k.ensures c.if-k-lt4.false)

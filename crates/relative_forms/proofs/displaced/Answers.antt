@@ -1,4 +1,4 @@
--- `displaced` is its definition's chain: a word, a direction, and the unit of the word. Assumes nothing.
+-- `displaced` is its definition's chain: a word, a direction, and the unit of the word.
 use mathlib.Core.Path.{◌≡◌}
 use lib.IntN.{neg_ℤ}
 use mir.Syntax.{w32}
@@ -10,9 +10,9 @@ use Rattle.relative.proofs.Units.{turned}
 use Rattle.relative.specs.Relative.{displaced}
 use Rattle.relative_forms.proofs.displaced.Goals as goal
 
-pub returns-in_default : goal.returns-in_default
+pub returns-in_err-end : goal.returns-in_err-end
 unfolding displaced
-returns-in_default c = search turned
+returns-in_err-end c = search turned
 
 pub in_unit-requires : goal.in_unit-requires
 in_unit-requires c = search turned
@@ -22,7 +22,7 @@ unfolding displaced
 returns c =
     let s = c in
     let m = c.multiplier.result in
-    let e : m ≡ if c.direction-towards.result.ago (neg_ℤ s.args.n) s.args.n = rw (to_z-of_z s.ranges.n) at c.multiplier.ensures in
-    let f : SFits w32 m = turned_fits c.direction-towards.result.ago s.args.n m s.ranges.n s.requires e in
+    let e : m ≡ if c.direction-ago.result.0 (neg_ℤ s.args.n) s.args.n = rw (to_z-of_z s.ranges.n) at c.multiplier.ensures in
+    let f : SFits w32 m = turned_fits c.direction-ago.result.0 s.args.n m s.ranges.n s.requires e in
     let q = rw (to_z-of_z f) at c.in_unit.ensures in
     search turned
