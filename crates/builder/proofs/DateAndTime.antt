@@ -1,5 +1,7 @@
 -- What a date and a time, in one item or in two, build under an accepted base: the record of them, midnight where no time is given, and with
 -- a relative item behind them what that makes of the record. Assumes nothing.
+use Rattle.std.specs.Prelude.{Option, Some, None}
+use Rattle.times.specs.declared.offset.Offset.{Offset}
 use native.Mathlib.Omega.{arith}
 use Prim.Native.Nat.{ℕ}
 use mathlib.Core.Path.{◌≡◌, refl}
@@ -12,36 +14,28 @@ use Rattle.extended.specs.declared.ExtendedDateTime.{ExtendedDateTime}
 use Rattle.extended.proofs.Records.{facts, tested}
 use Rattle.dates.specs.Date as dates
 use Rattle.dates.specs.declared.date.Date.{Date}
-use Rattle.dates.specs.declared.date.DateYear.TheVariants.{Given}
 use Rattle.times.specs.Offset.{total_seconds}
 use Rattle.times.specs.declared.time.Time.{Time}
-use Rattle.times.specs.declared.time.TimeOffset.{TimeOffset}
-use Rattle.times.specs.declared.time.TimeOffset.TheVariants as offset
 use Rattle.relative.specs.declared.Relative.{Relative}
 use Rattle.items.specs.declared.Item.{Item}
 use Rattle.items.specs.declared.Item.TheVariants as item
-use Rattle.items.specs.declared.Slot.{Slot}
 use Rattle.extended.specs.Placed.{fine, placed}
 use Rattle.rules.specs.Rules.{need_midnight, set_date, set_time, set_date_time, set_item, gather, relatives}
 use Rattle.builder.specs.Building.{start, on_date, on_offset, on_time, on_weekday, add_relative, add_relatives, on_zone, absolute, build_extended, built, build}
 use Rattle.rules.specs.declared.DateTimeBuilder.{DateTimeBuilder}
-use Rattle.rules.specs.declared.GivenDate.TheVariants as given-date
-use Rattle.rules.specs.declared.GivenTime.TheVariants as given-time
-use Rattle.rules.specs.declared.GivenWeekday.TheVariants as given-weekday
-use Rattle.rules.specs.declared.GivenZone.TheVariants as given-zone
 
 -- the offset that is given, or that of the base
-abbrev pub offset_or : ℤ → TimeOffset → ℤ
-offset_or base (offset.Given o) = total_seconds o
-offset_or base offset.NotGiven = base
+abbrev pub offset_or : ℤ → Option Offset → ℤ
+offset_or base (Some o) = total_seconds o
+offset_or base None = base
 
-abbrev slot : Item → Slot
-slot v = record { item = v }
+abbrev slot : Item → Item
+slot v = v
 
 abbrev day_of : ℕ → ℕ → ℕ → Date
-day_of y m d = dates.date_of (Given y) m d
+day_of y m d = dates.date_of (Some y) m d
 
-abbrev time_of : ℕ → ℕ → ℕ → ℕ → TimeOffset → Time
+abbrev time_of : ℕ → ℕ → ℕ → ℕ → Option Offset → Time
 time_of h i s n o = record { hour = h; minute = i; second = s; nanosecond = n; offset = o }
 
 -- a last step that changes nothing
@@ -53,7 +47,7 @@ accept_ok : (r : ExtendedDateTime) → test r ≡ accepted tt → accept r ≡ a
 unfolding accept
 accept_ok r t = rw t
 
-module _ (base : ExtendedDateTime) (tb : test base ≡ accepted tt) (y m d h i s n : ℕ) (z : TimeOffset) where
+module _ (base : ExtendedDateTime) (tb : test base ≡ accepted tt) (y m d h i s n : ℕ) (z : Option Offset) where
   abbrev whole : ExtendedDateTime
   whole = make (date y m d) (time h i s n) (offset_or base.offset_seconds z)
 
@@ -63,7 +57,7 @@ module _ (base : ExtendedDateTime) (tb : test base ≡ accepted tt) (y m d h i s
   abbrev on_date_lem : ExtendedDateTime
   on_date_lem = make (date y m d) (time 0 0 0 0) base.offset_seconds
 
-  abbrev at_offset : TimeOffset → ExtendedDateTime
+  abbrev at_offset : Option Offset → ExtendedDateTime
   at_offset w = make (date y m d) (time 0 0 0 0) (offset_or base.offset_seconds w)
 
   module _ (tr : test whole ≡ accepted tt) where
@@ -98,9 +92,9 @@ module _ (base : ExtendedDateTime) (tb : test base ≡ accepted tt) (y m d h i s
     unfolding with_offset make
     placed_at = go z third
       where
-        go : (w : TimeOffset) → test (at_offset w) ≡ accepted tt → on_offset w on_date_lem ≡ accepted (at_offset w)
-        go offset.NotGiven t = refl
-        go (offset.Given o) t = rw second (accept_ok _ t)
+        go : (w : Option Offset) → test (at_offset w) ≡ accepted tt → on_offset w on_date_lem ≡ accepted (at_offset w)
+        go None t = refl
+        go (Some o) t = rw second (accept_ok _ t)
 
     timed : with_time (at_offset z) (time h i s n) ≡ accepted whole
     unfolding with_time make
@@ -109,7 +103,7 @@ module _ (base : ExtendedDateTime) (tb : test base ≡ accepted tt) (y m d h i s
     -- ---- a date alone
 
     abbrev day_held : DateTimeBuilder
-    day_held = record { date = given-date.Given (day_of y m d); time = given-time.Absent; weekday = given-weekday.Absent; zone = given-zone.Absent }
+    day_held = record { date = Some (day_of y m d); time = None; weekday = None; zone = None }
 
     day_whole : (bare : Bool) → absolute day_held bare base ≡ accepted on_date_lem
     unfolding absolute start need_midnight on_date on_time on_weekday
@@ -126,7 +120,7 @@ module _ (base : ExtendedDateTime) (tb : test base ≡ accepted tt) (y m d h i s
     -- ---- with a time
 
     abbrev both_held : DateTimeBuilder
-    both_held = record { date = given-date.Given (day_of y m d); time = given-time.Given (time_of h i s n z); weekday = given-weekday.Absent; zone = given-zone.Absent }
+    both_held = record { date = Some (day_of y m d); time = Some (time_of h i s n z); weekday = None; zone = None }
 
     both_whole : (bare : Bool) → absolute both_held bare base ≡ accepted whole
     unfolding absolute start need_midnight on_date on_time on_weekday

@@ -1,6 +1,3 @@
-pub mod Chain
-pub mod Cases
-pub mod Weekdays
-pub mod Loops
 pub mod Places
 pub mod DateAndTime
+pub mod Loops

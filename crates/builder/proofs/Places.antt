@@ -1,4 +1,5 @@
 -- The place of a refusal of the rules or of the building is an item's index, or 0. Assumes nothing.
+use Rattle.items.specs.declared.Item.{Item}
 use native.Mathlib.Omega.{arith}
 use Prim.Native.Nat.{ℕ, suc, ◌+◌, ◌≤◌}
 use mathlib.Core.Bool.{Bool, true, false}
@@ -8,7 +9,6 @@ use lib.ListN.{length}
 use Rattle.extended.specs.Outcome.{Outcome, accepted, refused}
 use Rattle.extended.specs.declared.ExtendedDateTime.{ExtendedDateTime}
 use Rattle.primitive.specs.Answer.{if}
-use Rattle.items.specs.declared.Slot.{Slot}
 use Rattle.extended.specs.Placed.{Placed, fine, refusal, placed, place_of, ◌>>=◌, ◌>>◌}
 use Rattle.rules.specs.Rules.{empty, set_item, rule_place, onward, gather, relatives}
 use Rattle.rules.specs.declared.DateTimeBuilder.{DateTimeBuilder}
@@ -22,10 +22,10 @@ place_low n i = go (eqb n 9)
     go true = omega arith
     go false = omega arith
 
-rule_place_lem : (digits : List ℕ) (i : ℕ) (b : DateTimeBuilder) (xs : List Slot) → place_of (gather digits i b xs) ≤ i + length xs
+rule_place_lem : (digits : List ℕ) (i : ℕ) (b : DateTimeBuilder) (xs : List Item) → place_of (gather digits i b xs) ≤ i + length xs
 unfolding gather
 rule_place_lem digits i b [] = omega arith
-rule_place_lem digits i b (x ∷ xs) = go (λ next. rule_place_lem digits (suc i) next xs) (set_item digits b x.item)
+rule_place_lem digits i b (x ∷ xs) = go (λ next. rule_place_lem digits (suc i) next xs) (set_item digits b x)
   where
     go : ((next : DateTimeBuilder) → place_of (gather digits (suc i) next xs) ≤ suc i + length xs) → (o : Outcome DateTimeBuilder) → place_of (onward i o (λ next. gather digits (suc i) next xs)) ≤ i + suc (length xs)
     go f (accepted next) = omega (arith, f next)
@@ -43,7 +43,7 @@ pub at_place : {A : Type 0} (at : ℕ) (o : Outcome A) → place_of (placed at o
 at_place at (accepted a) = omega arith
 at_place at (refused n) = omega arith
 
-pub build_place : (digits : List ℕ) (xs : List Slot) (base : ExtendedDateTime) → place_of (build digits xs base) ≤ length xs
+pub build_place : (digits : List ℕ) (xs : List Item) (base : ExtendedDateTime) → place_of (build digits xs base) ≤ length xs
 unfolding build built
 build_place digits xs base =
     first_place (gather digits 0 empty xs) (λ b. placed 0 (build_extended b (relatives xs) base)) (length xs) (omega (arith, rule_place_lem digits 0 empty xs))

@@ -1,38 +1,27 @@
 -- How the items make a record of the base: document 01, 'items/weekday.rs, items/builder.rs'.
+use Rattle.std.specs.Prelude.{Option, Some, None}
+use Rattle.items.specs.declared.Item.{Item}
+use Rattle.dates.specs.declared.date.Date.{Date}
+use Rattle.times.specs.declared.time.Time.{Time}
+use Rattle.rules.specs.declared.Zone.{Zone}
+use Rattle.times.specs.declared.offset.Offset.{Offset}
 use Rattle.std.specs.Prelude.{ℕ, zero, suc, ◌+◌, ◌-◌, ◌%◌, Bool, true, false, List, [], ◌∷◌, eqb, ℤ, pos, negsuc, ◌+ℤ◌, ◌*ℤ◌}
 use Rattle.integers.specs.Integers.{in_i32}
 use Rattle.extended.specs.Outcome.{Outcome, accepted, refused, check, ◌>>=◌, ◌>>◌}
 use Rattle.extended.specs.Extended.{date, time, accept, with_date, with_time, with_offset, add_seconds, add_days, add_hours, add_minutes, add_years, add_months, weekday_monday0}
 use Rattle.extended.specs.declared.ExtendedDateTime.{ExtendedDateTime}
 use Rattle.primitive.specs.Answer.{if}
-use Rattle.dates.specs.declared.date.DateYear.{DateYear}
-use Rattle.dates.specs.declared.date.DateYear.TheVariants as year
 use Rattle.times.specs.Offset.{normalized, total_seconds}
 use Rattle.times.specs.declared.offset.Normalized.{Normalized}
-use Rattle.times.specs.declared.time.TimeOffset.{TimeOffset}
-use Rattle.times.specs.declared.time.TimeOffset.TheVariants as offset
 use Rattle.relative.specs.declared.Relative.{Relative}
 use Rattle.relative.specs.declared.Relative.TheVariants as relative
 use Rattle.items.specs.Items.{day_index}
 use Rattle.items.specs.declared.Weekday.{Weekday}
-use Rattle.items.specs.declared.Slot.{Slot}
 use Rattle.extended.specs.Placed as placed
 use Rattle.extended.specs.Placed.{Placed, fine, refusal}
 use Rattle.rules.specs.Rules.{empty, need_midnight, gather, relatives}
-use Rattle.rules.specs.declared.GivenDate.{GivenDate}
-use Rattle.rules.specs.declared.GivenDate.TheVariants as given-date
-use Rattle.rules.specs.declared.GivenTime.{GivenTime}
-use Rattle.rules.specs.declared.GivenTime.TheVariants as given-time
-use Rattle.rules.specs.declared.GivenWeekday.{GivenWeekday}
-use Rattle.rules.specs.declared.GivenWeekday.TheVariants as given-weekday
-use Rattle.rules.specs.declared.GivenZone.{GivenZone}
-use Rattle.rules.specs.declared.GivenZone.TheVariants as given-zone
+use Rattle.rules.specs.declared.Zone.TheVariants as given-zone
 use Rattle.rules.specs.declared.DateTimeBuilder.{DateTimeBuilder}
-use Rattle.rules.specs.declared.RelativePlace.{RelativePlace}
-use Rattle.builder.specs.declared.Days.{Days}
-use Rattle.builder.specs.declared.Days.TheVariants as days
-use Rattle.builder.specs.declared.Built.{Built}
-use Rattle.builder.specs.declared.Built.TheVariants as done
 
 -- ---- the clock at the start
 
@@ -42,21 +31,21 @@ start b bare base = if (need_midnight b bare) (with_time base (time 0 0 0 0)) (a
 -- ---- date, time, weekday
 
 -- a date without year is one of the base's year
-abbrev pub year_or : ℕ → DateYear → ℕ
-year_or y (year.Given x) = x
-year_or y year.Absent = y
+abbrev pub year_or : ℕ → Option ℕ → ℕ
+year_or y (Some x) = x
+year_or y None = y
 
-unfoldable pub on_date : GivenDate → ExtendedDateTime → Outcome ExtendedDateTime
-on_date given-date.Absent r = accepted r
-on_date (given-date.Given d) r = with_date r (date (year_or r.year d.year) d.month d.day)
+unfoldable pub on_date : Option Date → ExtendedDateTime → Outcome ExtendedDateTime
+on_date None r = accepted r
+on_date (Some d) r = with_date r (date (year_or r.year d.year) d.month d.day)
 
-abbrev pub on_offset : TimeOffset → ExtendedDateTime → Outcome ExtendedDateTime
-on_offset offset.NotGiven r = accepted r
-on_offset (offset.Given o) r = with_offset r (total_seconds o)
+abbrev pub on_offset : Option Offset → ExtendedDateTime → Outcome ExtendedDateTime
+on_offset None r = accepted r
+on_offset (Some o) r = with_offset r (total_seconds o)
 
-unfoldable pub on_time : GivenTime → ExtendedDateTime → Outcome ExtendedDateTime
-on_time given-time.Absent r = accepted r
-on_time (given-time.Given t) r = do
+unfoldable pub on_time : Option Time → ExtendedDateTime → Outcome ExtendedDateTime
+on_time None r = accepted r
+on_time (Some t) r = do
   next ← on_offset t.offset r
   with_time next (time t.hour t.minute t.second t.nanosecond)
 
@@ -89,9 +78,9 @@ forwarded w today r = do
   add_days r n
 
 -- 29.6: "The explicit mention of a day of the week will forward the date (only if necessary) to reach that day of the week in the future."
-unfoldable pub on_weekday : GivenWeekday → ExtendedDateTime → Outcome ExtendedDateTime
-on_weekday given-weekday.Absent r = accepted r
-on_weekday (given-weekday.Given w) r = do
+unfoldable pub on_weekday : Option Weekday → ExtendedDateTime → Outcome ExtendedDateTime
+on_weekday None r = accepted r
+on_weekday (Some w) r = do
   today ← weekday_monday0 r
   forwarded w today r
 
@@ -106,10 +95,10 @@ add_relative (relative.Hours n) r = add_hours r n
 add_relative (relative.Minutes n) r = add_minutes r n
 add_relative (relative.Seconds n k) r = add_seconds r n k
 
-unfoldable pub add_relatives : List RelativePlace → ExtendedDateTime → Outcome ExtendedDateTime
+unfoldable pub add_relatives : List Relative → ExtendedDateTime → Outcome ExtendedDateTime
 add_relatives [] r = accepted r
 add_relatives (x ∷ xs) r = do
-  next ← add_relative x.relative r
+  next ← add_relative x r
   add_relatives xs next
 
 -- Hours above 23 move the clock, after the relative items.
@@ -118,10 +107,10 @@ with_zone z r = do
   next ← add_hours r z.hour_adjustment
   with_offset next (total_seconds z.offset)
 
-unfoldable pub on_zone : GivenZone → ExtendedDateTime → Outcome ExtendedDateTime
-on_zone given-zone.Absent r = accepted r
-on_zone given-zone.Local r = accepted r
-on_zone (given-zone.Offset o) r = with_zone (normalized o) r
+unfoldable pub on_zone : Option Zone → ExtendedDateTime → Outcome ExtendedDateTime
+on_zone None r = accepted r
+on_zone (Some given-zone.Local) r = accepted r
+on_zone (Some (given-zone.Offset o)) r = with_zone (normalized o) r
 
 -- ---- the whole
 
@@ -132,30 +121,20 @@ absolute b bare base = do
   timed ← on_time b.time dated
   on_weekday b.weekday timed
 
-abbrev pub none : List RelativePlace → Bool
+abbrev pub none : List Relative → Bool
 none [] = true
 none (x ∷ xs) = false
 
-unfoldable pub build_extended : DateTimeBuilder → List RelativePlace → ExtendedDateTime → Outcome ExtendedDateTime
+unfoldable pub build_extended : DateTimeBuilder → List Relative → ExtendedDateTime → Outcome ExtendedDateTime
 build_extended b rs base = do
   r ← absolute b (none rs) base
   moved ← add_relatives rs r
   on_zone b.zone moved
 
 -- what the items give, if no rule is broken
-unfoldable pub built : Placed DateTimeBuilder → List RelativePlace → ExtendedDateTime → Placed ExtendedDateTime
+unfoldable pub built : Placed DateTimeBuilder → List Relative → ExtendedDateTime → Placed ExtendedDateTime
 built p rs base = placed.◌>>=◌ p (λ b. placed.placed 0 (build_extended b rs base))
 
 -- The rules of all items come before anything is done.
-unfoldable pub build : List ℕ → List Slot → ExtendedDateTime → Placed ExtendedDateTime
+unfoldable pub build : List ℕ → List Item → ExtendedDateTime → Placed ExtendedDateTime
 build digits xs base = built (gather digits 0 empty xs) (relatives xs) base
-
--- ---- the code's answer
-
-abbrev pub built_of : Built → Placed ExtendedDateTime
-built_of (done.Record r) = fine r
-built_of (done.Refused n at) = refusal n at
-
-abbrev pub days_of : Days → Outcome ℤ
-days_of (days.Add n) = accepted n
-days_of (days.Refused n) = refused n

@@ -2,211 +2,141 @@
 
 #![tactic(auto)]
 
-ghost use Rattle.std.specs.Prelude.{◌≡◌, min, take};
-ghost use Rattle.extended.specs.Extended.{made_of, accept};
-ghost use Rattle.extended.specs.Placed.{placed};
-ghost use Rattle.rules.specs.Rules.{standing_of};
-ghost use Rattle.builder.specs.Building.{start, year_or, on_date, on_offset, on_time, ahead, weeks, weekday_sum, delta, forwarded, on_weekday, add_relative, add_relatives, with_zone, on_zone, absolute, build_extended, built, built_of, days_of};
+ghost use Rattle.std.specs.Prelude.{◌≡◌};
+ghost use Rattle.extended.specs.Refusals.{outcome_of, placed_of};
+ghost use Rattle.builder.specs.Building.{start, on_date, on_offset, on_time, ahead, weeks, weekday_sum, delta, forwarded, on_weekday, add_relative, add_relatives, with_zone, on_zone, absolute, build_extended, built};
 
-use dates::date::DateYear;
-use extended::{DateParts, DayCount, ExtendedDateTime, Made, TimeParts};
-use integers::{Checked, Natural};
+use dates::date::Date;
+use extended::{ExtendedDateTime, PlacedRefusal, Refusal};
 use items::Weekday;
 use relative::Relative;
-use rules::{
-    DateTimeBuilder, GivenDate, GivenTime, GivenWeekday, GivenZone, RelativePlace, Standing,
-};
-use times::offset::Normalized;
-use times::time::TimeOffset;
+use rules::{DateTimeBuilder, Zone};
+use times::offset::{Normalized, Offset};
+use times::time::Time;
 
-// A record, or the number and the place of a refusal.
-#[derive(Clone, Copy)]
-pub enum Built {
-    Record(ExtendedDateTime),
-    Refused(u32, usize),
-}
-
-// Days to be added, or the number of a refusal.
-#[derive(Clone, Copy)]
-enum Days {
-    Add(i64),
-    Refused(u32),
-}
-
-// The record of items, of which the first `count` relative ones count.
+// The record of items: what those that are not relative give, and the relative ones.
+#[tactic(auto, unfolding(crate::specs::Building::built))]
 pub fn build(
-    standing: Standing,
-    relatives: [RelativePlace; 64],
-    count: usize,
+    standing: Result<DateTimeBuilder, PlacedRefusal>,
+    relatives: &[Relative],
     base: ExtendedDateTime,
-) -> Built
-    ensures { built_of result ≡ built (standing_of standing) (take count relatives) base }
+) -> Result<ExtendedDateTime, PlacedRefusal>
+    ensures { placed_of result ≡ built (placed_of standing) relatives.now base }
 {
-    match standing {
-        Standing::Good(builder) => placed(build_extended(builder, relatives, count, base)),
-        Standing::Broken(number, place) => Built::Refused(number, place),
-    }
+    let builder = standing?;
+    Ok(build_extended(builder, relatives, base)?)
 }
 
-fn placed(made: Made) -> Built
-    ensures { built_of result ≡ placed 0 (made_of made) }
-{
-    match made {
-        Made::Record(dt) => Built::Record(dt),
-        Made::Refused(number) => Built::Refused(number, 0),
-    }
-}
-
-// The first `count` relative items count.
+#[tactic(auto, unfolding(crate::specs::Building::build_extended))]
 pub(crate) fn build_extended(
     builder: DateTimeBuilder,
-    relatives: [RelativePlace; 64],
-    count: usize,
+    relatives: &[Relative],
     base: ExtendedDateTime,
-) -> Made
-    ensures { made_of result ≡ build_extended builder (take count relatives) base }
+) -> Result<ExtendedDateTime, Refusal>
+    ensures { outcome_of result ≡ build_extended builder relatives.now base }
 {
-    let made = absolute(builder, count == 0, base);
-    let Made::Record(dt) = made else {
-        return made;
-    };
-    let made = add_relatives(relatives, count, dt);
-    let Made::Record(dt) = made else {
-        return made;
-    };
-    let zone = builder.zone;
-    on_zone(zone, dt)
+    let dt = absolute(builder, relatives.is_empty(), base)?;
+    let dt = add_relatives(relatives, dt)?;
+    on_zone(builder.zone, dt)
 }
 
 // The clock at its start, and then the date, the time and the weekday. `bare`: there is no relative item.
-#[tactic(auto, using(crate::proofs::Cases::cases), unfolding(crate::specs::Building::absolute))]
-fn absolute(builder: DateTimeBuilder, bare: bool, base: ExtendedDateTime) -> Made
-    ensures { made_of result ≡ absolute builder bare base }
+#[tactic(auto, unfolding(crate::specs::Building::absolute))]
+fn absolute(
+    builder: DateTimeBuilder,
+    bare: bool,
+    base: ExtendedDateTime,
+) -> Result<ExtendedDateTime, Refusal>
+    ensures { outcome_of result ≡ absolute builder bare base }
 {
-    let made = start(builder, bare, base);
-    let Made::Record(dt) = made else {
-        return made;
-    };
-    let date = builder.date;
-    let made = on_date(date, dt);
-    let Made::Record(dt) = made else {
-        return made;
-    };
-    let time = builder.time;
-    let made = on_time(time, dt);
-    let Made::Record(dt) = made else {
-        return made;
-    };
-    let weekday = builder.weekday;
-    on_weekday(weekday, dt)
+    let dt = start(builder, bare, base)?;
+    let dt = on_date(builder.date, dt)?;
+    let dt = on_time(builder.time, dt)?;
+    on_weekday(builder.weekday, dt)
 }
 
-#[tactic(auto, using(crate::proofs::Cases::cases), unfolding(crate::specs::Building::start))]
-fn start(builder: DateTimeBuilder, bare: bool, base: ExtendedDateTime) -> Made
-    ensures { made_of result ≡ start builder bare base }
+#[tactic(auto, unfolding(crate::specs::Building::start, extended::specs::Extended::accept))]
+fn start(
+    builder: DateTimeBuilder,
+    bare: bool,
+    base: ExtendedDateTime,
+) -> Result<ExtendedDateTime, Refusal>
+    ensures { outcome_of result ≡ start builder bare base }
 {
     if builder.need_midnight(bare) {
         return base.with_time(0, 0, 0, 0);
     }
-    accept(base)
+    base.test()?;
+    Ok(base)
 }
 
-// The base itself, if it is accepted.
-fn accept(base: ExtendedDateTime) -> Made
-    ensures { made_of result ≡ accept base }
+// What is not given changes nothing.
+#[tactic(auto, unfolding(crate::specs::Building::on_date))]
+fn on_date(given: Option<Date>, dt: ExtendedDateTime) -> Result<ExtendedDateTime, Refusal>
+    ensures { outcome_of result ≡ on_date given dt }
 {
-    let date = DateParts {
-        year: base.year,
-        month: base.month,
-        day: base.day,
+    let Some(date) = given else {
+        return Ok(dt);
     };
-    let time = TimeParts {
-        hour: base.hour,
-        minute: base.minute,
-        second: base.second,
-        nanosecond: base.nanosecond,
-    };
-    ExtendedDateTime::new(date, time, base.offset_seconds)
+    dt.with_date(date.year.unwrap_or(dt.year), date.month, date.day)
 }
 
-#[tactic(auto, using(crate::proofs::Cases::cases))]
-fn on_date(given: GivenDate, dt: ExtendedDateTime) -> Made
-    ensures { made_of result ≡ on_date given dt }
+#[tactic(auto, unfolding(crate::specs::Building::on_time))]
+fn on_time(given: Option<Time>, dt: ExtendedDateTime) -> Result<ExtendedDateTime, Refusal>
+    ensures { outcome_of result ≡ on_time given dt }
 {
-    let GivenDate::Given(date) = given else {
-        return Made::Record(dt);
+    let Some(time) = given else {
+        return Ok(dt);
     };
-    let year = date.year;
-    dt.with_date(year_or(dt.year, year), date.month, date.day)
-}
-
-fn year_or(base: u32, year: DateYear) -> u32
-    ensures { result ≡ year_or base year }
-{
-    match year {
-        DateYear::Given(year) => year,
-        DateYear::Absent => base,
-    }
-}
-
-fn on_time(given: GivenTime, dt: ExtendedDateTime) -> Made
-    ensures { made_of result ≡ on_time given dt }
-{
-    let GivenTime::Given(time) = given else {
-        return Made::Record(dt);
-    };
-    let offset = time.offset;
-    let made = on_offset(offset, dt);
-    let Made::Record(dt) = made else {
-        return made;
-    };
+    let dt = on_offset(time.offset, dt)?;
     dt.with_time(time.hour, time.minute, time.second, time.nanosecond)
 }
 
-fn on_offset(given: TimeOffset, dt: ExtendedDateTime) -> Made
-    ensures { made_of result ≡ on_offset given dt }
+fn on_offset(given: Option<Offset>, dt: ExtendedDateTime) -> Result<ExtendedDateTime, Refusal>
+    ensures { outcome_of result ≡ on_offset given dt }
 {
-    let TimeOffset::Given(offset) = given else {
-        return Made::Record(dt);
+    let Some(offset) = given else {
+        return Ok(dt);
     };
     dt.with_offset(offset.total_seconds())
 }
 
 // The clock stands at midnight or at the time that is given.
-fn on_weekday(given: GivenWeekday, dt: ExtendedDateTime) -> Made
-    ensures { made_of result ≡ on_weekday given dt }
+#[tactic(auto, unfolding(crate::specs::Building::on_weekday))]
+fn on_weekday(given: Option<Weekday>, dt: ExtendedDateTime) -> Result<ExtendedDateTime, Refusal>
+    ensures { outcome_of result ≡ on_weekday given dt }
 {
-    let GivenWeekday::Given(weekday) = given else {
-        return Made::Record(dt);
+    let Some(weekday) = given else {
+        return Ok(dt);
     };
-    match moments::weekday_monday0(dt) {
-        DayCount::Days(today) => forwarded(weekday, today, dt),
-        DayCount::Refused(number) => Made::Refused(number),
-    }
+    let today = moments::weekday_monday0(dt)?;
+    forwarded(weekday, today, dt)
 }
 
 // Forward from today to the weekday.
-#[tactic(auto, using(crate::proofs::Cases::cases), unfolding(crate::specs::Building::forwarded))]
-fn forwarded(weekday: Weekday, today: u32, dt: ExtendedDateTime) -> Made
-    ensures { made_of result ≡ forwarded weekday today dt }
+#[tactic(auto, unfolding(crate::specs::Building::forwarded))]
+fn forwarded(
+    weekday: Weekday,
+    today: u32,
+    dt: ExtendedDateTime,
+) -> Result<ExtendedDateTime, Refusal>
+    ensures { outcome_of result ≡ forwarded weekday today dt }
 {
-    match delta(weekday, today) {
-        Days::Add(days) => sums::checked_add_days(dt, days),
-        Days::Refused(number) => Made::Refused(number),
-    }
+    let days = delta(weekday, today)?;
+    sums::checked_add_days(dt, i64::from(days))
 }
 
 // The days from today to the weekday.
-fn delta(weekday: Weekday, today: u32) -> Days
-    ensures { days_of result ≡ delta weekday today }
+#[tactic(auto, unfolding(crate::specs::Building::delta))]
+fn delta(weekday: Weekday, today: u32) -> Result<i32, Refusal>
+    ensures { outcome_of result ≡ delta weekday today }
 {
-    let day = weekday.day;
-    let target = items::day_index(day) as u32;
+    let target = u32::from(items::day_index(weekday.day));
     weekday_sum(weeks(weekday.offset, today == target), ahead(today, target))
 }
 
 // The days from one day of the week to the next that is another, 0 to itself.
-#[tactic(auto, using(crate::proofs::Cases::cases), unfolding(crate::specs::Building::ahead))]
+#[tactic(auto, unfolding(crate::specs::Building::ahead))]
 fn ahead(today: u32, target: u32) -> u32
     ensures { result ≡ ahead today target }
 {
@@ -214,104 +144,64 @@ fn ahead(today: u32, target: u32) -> u32
 }
 
 // The weeks to go forward: one less where the day itself lies ahead.
-fn weeks(offset: i32, same: bool) -> i64
+#[tactic(auto, unfolding(crate::specs::Building::weeks))]
+fn weeks(offset: i32, same: bool) -> i32
     ensures { result ≡ weeks offset same }
 {
-    let weeks = integers::widen(offset);
-    if same {
-        return weeks;
+    if same || offset <= 0 {
+        return offset;
     }
-    let Natural::At(count) = integers::to_natural(weeks) else {
-        return weeks;
-    };
-    if count == 0 {
-        return weeks;
-    }
-    (count - 1) as i64
+    offset - 1
 }
 
 // The Rust's sum is one of i32, and overflows; here it is refused.
-fn weekday_sum(weeks: i64, ahead: u32) -> Days
-    ensures { days_of result ≡ weekday_sum weeks ahead }
+#[tactic(auto, unfolding(crate::specs::Building::weekday_sum))]
+fn weekday_sum(weeks: i32, ahead: u32) -> Result<i32, Refusal>
+    ensures { outcome_of result ≡ weekday_sum weeks ahead }
 {
-    let Checked::Fits(days) = integers::checked_mul(weeks, 7) else {
-        return Days::Refused(18);
-    };
-    if !integers::in_i32(days) {
-        return Days::Refused(18);
-    }
-    let Checked::Fits(days) = integers::checked_add(days, ahead as i64) else {
-        return Days::Refused(18);
-    };
-    if !integers::in_i32(days) {
-        return Days::Refused(18);
-    }
-    Days::Add(days)
+    let days = weeks.checked_mul(7).ok_or(Refusal::Sum)?;
+    days.checked_add_unsigned(ahead).ok_or(Refusal::Sum)
 }
 
-// No array here has more places than 64.
-fn at_most_64(count: usize) -> usize
-    ensures { result ≡ min count 64 }
+fn add_relatives(relatives: &[Relative], dt: ExtendedDateTime) -> Result<ExtendedDateTime, Refusal>
+    ensures { outcome_of result ≡ add_relatives relatives.now dt }
 {
-    if count < 64 {
-        return count;
-    }
-    64
-}
-
-fn add_relatives(relatives: [RelativePlace; 64], count: usize, dt: ExtendedDateTime) -> Made
-    ensures { made_of result ≡ add_relatives (take count relatives) dt }
-{
-    let last = at_most_64(count);
     let mut dt = dt;
-    let mut i = 0;
-    while i < last {
-        let place = relatives[i];
-        let relative = place.relative;
-        match add_relative(relative, dt) {
-            Made::Record(next) => {
-                dt = next;
-            }
-            Made::Refused(number) => {
-                return Made::Refused(number);
-            }
-        }
-        i += 1;
+    for relative in relatives {
+        dt = add_relative(*relative, dt)?;
     }
-    Made::Record(dt)
+    Ok(dt)
 }
 
-fn add_relative(relative: Relative, dt: ExtendedDateTime) -> Made
-    ensures { made_of result ≡ add_relative relative dt }
+#[tactic(auto, unfolding(crate::specs::Building::add_relative))]
+fn add_relative(relative: Relative, dt: ExtendedDateTime) -> Result<ExtendedDateTime, Refusal>
+    ensures { outcome_of result ≡ add_relative relative dt }
 {
     match relative {
         Relative::Years(years) => sums::checked_add_years(dt, years),
         Relative::Months(months) => sums::checked_add_months(dt, months),
-        Relative::Days(days) => sums::checked_add_days(dt, integers::widen(days)),
-        Relative::Hours(hours) => sums::checked_add_hours(dt, integers::widen(hours)),
-        Relative::Minutes(minutes) => sums::checked_add_minutes(dt, integers::widen(minutes)),
+        Relative::Days(days) => sums::checked_add_days(dt, i64::from(days)),
+        Relative::Hours(hours) => sums::checked_add_hours(dt, i64::from(hours)),
+        Relative::Minutes(minutes) => sums::checked_add_minutes(dt, i64::from(minutes)),
         Relative::Seconds(seconds, nanos) => moments::checked_add_seconds(dt, seconds, nanos),
     }
 }
 
-#[tactic(auto, using(crate::proofs::Cases::cases))]
-fn on_zone(given: GivenZone, dt: ExtendedDateTime) -> Made
-    ensures { made_of result ≡ on_zone given dt }
+#[tactic(auto, unfolding(crate::specs::Building::on_zone))]
+fn on_zone(given: Option<Zone>, dt: ExtendedDateTime) -> Result<ExtendedDateTime, Refusal>
+    ensures { outcome_of result ≡ on_zone given dt }
 {
     match given {
-        GivenZone::Offset(offset) => with_zone(offset.normalize(), dt),
-        GivenZone::Local => Made::Record(dt),
-        GivenZone::Absent => Made::Record(dt),
+        Some(Zone::Offset(offset)) => with_zone(offset.normalize(), dt),
+        Some(Zone::Local) => Ok(dt),
+        None => Ok(dt),
     }
 }
 
-fn with_zone(zone: Normalized, dt: ExtendedDateTime) -> Made
-    ensures { made_of result ≡ with_zone zone dt }
+#[tactic(auto, unfolding(crate::specs::Building::with_zone))]
+fn with_zone(zone: Normalized, dt: ExtendedDateTime) -> Result<ExtendedDateTime, Refusal>
+    ensures { outcome_of result ≡ with_zone zone dt }
 {
-    let made = sums::checked_add_hours(dt, zone.hour_adjustment);
-    let Made::Record(dt) = made else {
-        return made;
-    };
-    let offset = zone.offset;
-    dt.with_offset(offset.total_seconds())
+    let dt = sums::checked_add_hours(dt, zone.hour_adjustment)?;
+    dt.with_offset(zone.offset.total_seconds())
 }

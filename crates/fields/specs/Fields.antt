@@ -1,19 +1,16 @@
 -- The 28 bytes of a packet's item: document 01, 'Packet and text'.
+use Rattle.std.specs.Prelude.{Option, Some, None}
 use Rattle.std.specs.Prelude.{ℕ, zero, suc, ◌+◌, ◌-◌, ◌*◌, ◌/◌, ◌%◌, ◌^◌, Bool, true, false, ◌&&◌, List, leb, ltb, eqb, get_or, ℤ, pos, negsuc}
 use Rattle.integers.specs.Integers.{in_i32}
 use Rattle.extended.specs.Outcome.{Outcome, accepted, refused, check, ◌>>=◌, ◌>>◌}
 use Rattle.primitive.specs.Answer.{if}
 use Rattle.dates.specs.Date.{exists}
 use Rattle.dates.specs.declared.date.Date.{Date}
-use Rattle.dates.specs.declared.date.DateYear.{DateYear}
-use Rattle.dates.specs.declared.date.DateYear.TheVariants as year
 use Rattle.relative.specs.declared.Relative.{Relative}
 use Rattle.relative.specs.declared.Relative.TheVariants as relative
 use Rattle.times.specs.Offset as offset-range
 use Rattle.times.specs.declared.offset.Offset.{Offset}
 use Rattle.times.specs.declared.time.Time.{Time}
-use Rattle.times.specs.declared.time.TimeOffset.{TimeOffset}
-use Rattle.times.specs.declared.time.TimeOffset.TheVariants as offset
 use Rattle.items.specs.declared.Day.{Day}
 use Rattle.items.specs.declared.Day.TheVariants as day
 use Rattle.items.specs.declared.Pure.{Pure}
@@ -21,12 +18,6 @@ use Rattle.items.specs.declared.Item.{Item}
 use Rattle.items.specs.declared.Item.TheVariants as item
 use Rattle.items.specs.Items.{day_index}
 use Rattle.fields.specs.declared.Fields.{Fields}
-use Rattle.fields.specs.declared.Found.{Found}
-use Rattle.fields.specs.declared.Found.TheVariants as found
-use Rattle.fields.specs.declared.Small.{Small}
-use Rattle.fields.specs.declared.Small.TheVariants as small-number
-use Rattle.fields.specs.declared.FoundDay.{FoundDay}
-use Rattle.fields.specs.declared.FoundDay.TheVariants as found-day
 
 -- ---- numbers
 
@@ -60,8 +51,8 @@ fields_at bytes i = fields_from bytes (8 + 28 * i)
 abbrev pub flagged : ℕ → ℕ → Bool
 flagged bit flags = eqb (flags / bit % 2) 1
 
-unfoldable pub year_of : Fields → DateYear
-year_of f = if (flagged 1 f.flags) (year.Given f.year) year.Absent
+unfoldable pub year_of : Fields → Option ℕ
+year_of f = if (flagged 1 f.flags) (Some f.year) None
 
 unfoldable pub date_of : Fields → Date
 date_of f = record { day = f.day; month = f.month; year = year_of f }
@@ -69,8 +60,8 @@ date_of f = record { day = f.day; month = f.month; year = year_of f }
 abbrev pub offset_of : Fields → Offset
 offset_of f = record { negative = flagged 4 f.flags; hours = f.offset_hours; minutes = f.offset_minutes }
 
-unfoldable pub time_offset_of : Fields → TimeOffset
-time_offset_of f = if (flagged 2 f.flags) (offset.Given (offset_of f)) offset.NotGiven
+unfoldable pub time_offset_of : Fields → Option Offset
+time_offset_of f = if (flagged 2 f.flags) (Some (offset_of f)) None
 
 unfoldable pub time_of : Fields → Time
 time_of f = record { hour = f.hour; minute = f.minute; second = f.second; nanosecond = f.nanosecond; offset = time_offset_of f }
@@ -120,13 +111,13 @@ item_of f used =
 -- ---- ranges: "Ranges are those of the Rust's `TryFrom`"
 
 -- "A year above 2147485547 in an item is 5." A date without year may be 29 February.
-unfoldable pub date_in_range : DateYear → ℕ → ℕ → Bool
-date_in_range (year.Given y) m d = leb y 2147485547 && exists y m d
-date_in_range year.Absent m d = exists 2000 m d
+unfoldable pub date_in_range : Option ℕ → ℕ → ℕ → Bool
+date_in_range (Some y) m d = leb y 2147485547 && exists y m d
+date_in_range None m d = exists 2000 m d
 
-unfoldable pub offset_in_range : TimeOffset → Bool
-offset_in_range (offset.Given o) = offset-range.in_range o.hours o.minutes
-offset_in_range offset.NotGiven = true
+unfoldable pub offset_in_range : Option Offset → Bool
+offset_in_range (Some o) = offset-range.in_range o.hours o.minutes
+offset_in_range None = true
 
 unfoldable pub time_in_range : Time → Bool
 time_in_range t = leb t.hour 23 && (leb t.minute 59 && (leb t.second 59 && (leb t.nanosecond 999999999 && offset_in_range t.offset)))
@@ -155,29 +146,29 @@ in_range (item.Pure p) = pure_in_range p
 abbrev pub counted : ℕ → ℕ → ℕ → ℕ → Fields
 counted k which n nanos = record { kind = k; which = which; month = 0; day = 0; year = 0; hour = 0; minute = 0; second = 0; flags = 0; nanosecond = nanos; offset_hours = 0; offset_minutes = 0; length = 0; amount = n }
 
-abbrev pub year_flag : DateYear → ℕ
-year_flag (year.Given y) = 1
-year_flag year.Absent = 0
+abbrev pub year_flag : Option ℕ → ℕ
+year_flag (Some y) = 1
+year_flag None = 0
 
-abbrev pub year_field : DateYear → ℕ
-year_field (year.Given y) = y
-year_field year.Absent = 0
+abbrev pub year_field : Option ℕ → ℕ
+year_field (Some y) = y
+year_field None = 0
 
 abbrev pub sign_flag : Bool → ℕ
 sign_flag true = 4
 sign_flag false = 0
 
-abbrev pub offset_flags : TimeOffset → ℕ
-offset_flags (offset.Given o) = 2 + sign_flag o.negative
-offset_flags offset.NotGiven = 0
+abbrev pub offset_flags : Option Offset → ℕ
+offset_flags (Some o) = 2 + sign_flag o.negative
+offset_flags None = 0
 
-abbrev pub hours_field : TimeOffset → ℕ
-hours_field (offset.Given o) = o.hours
-hours_field offset.NotGiven = 0
+abbrev pub hours_field : Option Offset → ℕ
+hours_field (Some o) = o.hours
+hours_field None = 0
 
-abbrev pub minutes_field : TimeOffset → ℕ
-minutes_field (offset.Given o) = o.minutes
-minutes_field offset.NotGiven = 0
+abbrev pub minutes_field : Option Offset → ℕ
+minutes_field (Some o) = o.minutes
+minutes_field None = 0
 
 unfoldable pub with_date : ℕ → Date → Fields
 with_date k d = record { kind = k; which = 0; month = d.month; day = d.day; year = year_field d.year; hour = 0; minute = 0; second = 0; flags = year_flag d.year; nanosecond = 0; offset_hours = 0; offset_minutes = 0; length = 0; amount = 0 }
@@ -251,14 +242,7 @@ digits_used (item.Relative r) = 0
 
 -- ---- the code's answer
 
-abbrev pub found_of : Found → Outcome Item
-found_of (found.Item x) = accepted x
-found_of found.Bad = refused 5
-
-abbrev pub day_found : FoundDay → Outcome Day
-day_found (found-day.Day d) = accepted d
-day_found found-day.Bad = refused 5
-
-abbrev pub small_of : Small → Outcome ℤ
-small_of (small-number.Fits n) = accepted n
-small_of small-number.Overflow = refused 5
+-- what fields give, or that they are those of no item
+abbrev pub found_of : {A : Type 0} → Option A → Outcome A
+found_of (Some x) = accepted x
+found_of None = refused 5

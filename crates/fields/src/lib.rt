@@ -4,11 +4,11 @@
 #![tactic(auto)]
 
 ghost use Rattle.std.specs.Prelude.{◌≡◌, ◌<◌, get_or};
-ghost use Rattle.fields.specs.Fields.{little, signed, unsigned, small, fields_from, fields_at, small_of, digits_used};
+ghost use Rattle.fields.specs.Fields.{little, signed, unsigned, small, fields_from, fields_at, found_of, digits_used};
 
-use items::{Day, Item};
+use items::Item;
 
-#[derive(Clone, Copy)]
+#[derive(Clone, Copy, Default, PartialEq, Eq)]
 pub struct Fields {
     pub kind: u8,
     // The weekday, or the unit of a relative item.
@@ -29,61 +29,52 @@ pub struct Fields {
     pub amount: u64,
 }
 
-// An item, or that the fields are those of none.
-#[derive(Clone, Copy)]
-pub enum Found {
-    Item(Item),
-    Bad,
-}
-
-// A number that an i32 holds.
-#[derive(Clone, Copy)]
-pub enum Small {
-    Fits(i32),
-    Overflow,
-}
-
-// A day of the week, or that there is none.
-#[derive(Clone, Copy)]
-pub enum FoundDay {
-    Day(Day),
-    Bad,
-}
-
 // ---- bytes
 
 // A byte, and 0 behind the last.
 fn byte_at(bytes: &[u8], at: usize) -> u8
     ensures { result ≡ get_or bytes.now at 0 }
 {
-    if at < bytes.len() {
-        return bytes[at];
-    }
-    0
+    bytes.get(at).copied().unwrap_or(0)
 }
 
-#[tactic(auto, using(crate::proofs::Numbers::two))]
+// The bytes from a place on, little-endian.
+#[tactic(auto, unfolding(crate::specs::Fields::little))]
 fn u16_from(bytes: &[u8], at: usize) -> u16
     requires { at < 1099511627776 }
     ensures { result ≡ little 2 at bytes.now }
 {
-    byte_at(bytes, at) as u16 + 256 * (byte_at(bytes, at + 1) as u16)
+    u16::from_le_bytes([byte_at(bytes, at), byte_at(bytes, at + 1)])
 }
 
-#[tactic(auto, using(crate::proofs::Numbers::four))]
+#[tactic(auto, unfolding(crate::specs::Fields::little))]
 fn u32_from(bytes: &[u8], at: usize) -> u32
     requires { at < 1099511627774 }
     ensures { result ≡ little 4 at bytes.now }
 {
-    u16_from(bytes, at) as u32 + 65536 * (u16_from(bytes, at + 2) as u32)
+    u32::from_le_bytes([
+        byte_at(bytes, at),
+        byte_at(bytes, at + 1),
+        byte_at(bytes, at + 2),
+        byte_at(bytes, at + 3),
+    ])
 }
 
-#[tactic(auto, using(crate::proofs::Numbers::eight))]
+#[tactic(auto, unfolding(crate::specs::Fields::little))]
 fn u64_from(bytes: &[u8], at: usize) -> u64
     requires { at < 1099511627770 }
     ensures { result ≡ little 8 at bytes.now }
 {
-    u32_from(bytes, at) as u64 + 4294967296 * (u32_from(bytes, at + 4) as u64)
+    u64::from_le_bytes([
+        byte_at(bytes, at),
+        byte_at(bytes, at + 1),
+        byte_at(bytes, at + 2),
+        byte_at(bytes, at + 3),
+        byte_at(bytes, at + 4),
+        byte_at(bytes, at + 5),
+        byte_at(bytes, at + 6),
+        byte_at(bytes, at + 7),
+    ])
 }
 
 // A number of the header.
@@ -93,39 +84,29 @@ pub fn u16_at(bytes: &[u8], at: u8) -> u16
     u16_from(bytes, at as usize)
 }
 
+#[tactic(auto, unfolding(crate::specs::Fields::signed))]
 pub fn signed(n: u64) -> i64
     ensures { result ≡ signed n }
 {
-    if n < 0x8000_0000_0000_0000 {
-        return n as i64;
-    }
-    -1 - ((0xffff_ffff_ffff_ffff - n) as i64)
+    n.cast_signed()
 }
 
+#[tactic(auto, unfolding(crate::specs::Fields::unsigned))]
 pub fn unsigned(n: i64) -> u64
     ensures { result ≡ unsigned n }
 {
-    let raised = integers::bias(n);
-    if raised < 0x8000_0000_0000_0000 {
-        return raised + 0x8000_0000_0000_0000;
-    }
-    raised - 0x8000_0000_0000_0000
+    n.cast_unsigned()
 }
 
-pub fn as_small(n: u64) -> Small
-    ensures { small_of result ≡ small n }
+// The signed number, where an i32 holds it.
+#[tactic(auto, unfolding(crate::specs::Fields::small))]
+pub fn as_small(n: u64) -> Option<i32>
+    ensures { found_of result ≡ small n }
 {
-    let is_small = n < 0x8000_0000;
-    if is_small {
-        return Small::Fits(n as i32);
-    }
-    let is_between = n < 0xffff_ffff_8000_0000;
-    if is_between {
-        return Small::Overflow;
-    }
-    Small::Fits(-1 - ((0xffff_ffff_ffff_ffff - n) as i32))
+    i32::try_from(signed(n)).ok()
 }
 
+#[tactic(auto, unfolding(crate::specs::Fields::fields_from))]
 fn fields_from(bytes: &[u8], at: usize) -> Fields
     requires { at < 549755813888 }
     ensures { result ≡ fields_from bytes.now at }
@@ -174,13 +155,7 @@ pub fn digits_used(item: Item) -> usize
     ensures { (result ≡ digits_used item) × (result < 65536) }
 {
     match item {
-        Item::Pure(pure) => pure.length as usize,
-        Item::Date(_) => 0,
-        Item::Time(_) => 0,
-        Item::DateTime(_) => 0,
-        Item::Weekday(_) => 0,
-        Item::Offset(_) => 0,
-        Item::LocalZone => 0,
-        Item::Relative(_) => 0,
+        Item::Pure(pure) => usize::from(pure.length),
+        _ => 0,
     }
 }

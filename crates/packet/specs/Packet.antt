@@ -6,7 +6,6 @@ use Rattle.extended.specs.Extended.{test}
 use Rattle.extended.specs.declared.ExtendedDateTime.{ExtendedDateTime}
 use Rattle.primitive.specs.Text.{lowered, digit, past}
 use Rattle.items.specs.declared.Item.{Item}
-use Rattle.items.specs.declared.Slot.{Slot}
 use Rattle.extended.specs.Placed.{Placed, fine, placed, ◌>>=◌, ◌>>◌}
 use Rattle.builder.specs.Building.{build}
 use Rattle.fields.specs.Fields.{little, fields_at, unpacked, digits_used}
@@ -43,14 +42,14 @@ item_at bytes area i used =
     outcome.◌>>=◌ (unpacked (fields_at bytes i) used) (λ x. outcome.◌>>◌ (check (digits_stand area used (digits_used x)) 5) (accepted x))
 
 -- "then items in order, then leftover digits": n items from the index i on. "5 for digits left over: the item count"
-unfoldable pub items_from : List ℕ → List ℕ → ℕ → ℕ → ℕ → Placed (List Slot)
+unfoldable pub items_from : List ℕ → List ℕ → ℕ → ℕ → ℕ → Placed (List Item)
 items_from bytes area zero i used = do
   placed i (check (leb (length area) used) 5)
   fine []
 items_from bytes area (suc n) i used = do
   x ← placed i (item_at bytes area i used)
   xs ← items_from bytes area n (suc i) (used + digits_used x)
-  fine (record { item = x } ∷ xs)
+  fine (x ∷ xs)
 
 -- "then builder rules", and the building
 unfoldable pub build_items : List ℕ → List ℕ → ℕ → ExtendedDateTime → Placed ExtendedDateTime
@@ -61,7 +60,7 @@ build_items bytes area n base = do
 -- ---- the whole
 
 -- the items of a packet
-unfoldable pub packet_items : List ℕ → Placed (List Slot)
+unfoldable pub packet_items : List ℕ → Placed (List Item)
 packet_items bytes = do
   placed 0 (header bytes)
   items_from bytes (digits bytes) (count bytes) 0 0

@@ -1,4 +1,5 @@
 -- The fields of an item are that item again. Assumes nothing.
+use Rattle.std.specs.Prelude.{Option, Some, None}
 use native.Mathlib.Omega.{arith}
 use Prim.Native.Nat.{ℕ, ◌-◌}
 use mathlib.Core.Path.{◌≡◌, refl, ap}
@@ -9,14 +10,10 @@ use borrow.Author.Tests.{lt-ltb, le-ltb, ltb-true, leb-true, eq-eqb}
 use Rattle.integers.specs.Integers.{in_i32, in_i64}
 use Rattle.extended.specs.Outcome.{accepted}
 use Rattle.dates.specs.declared.date.Date.{Date}
-use Rattle.dates.specs.declared.date.DateYear.{DateYear}
-use Rattle.dates.specs.declared.date.DateYear.TheVariants as year
 use Rattle.relative.specs.declared.Relative.{Relative}
 use Rattle.relative.specs.declared.Relative.TheVariants as relative
 use Rattle.times.specs.declared.offset.Offset.{Offset}
 use Rattle.times.specs.declared.time.Time.{Time}
-use Rattle.times.specs.declared.time.TimeOffset.{TimeOffset}
-use Rattle.times.specs.declared.time.TimeOffset.TheVariants as offset
 use Rattle.items.specs.declared.combined.DateTime.{DateTime}
 use Rattle.items.specs.declared.Day.{Day}
 use Rattle.items.specs.declared.Day.TheVariants as day
@@ -64,51 +61,51 @@ date_back : (d : Date) → date_of (with_date 1 d) ≡ d
 unfolding date_of with_date year_of
 date_back d = by d.year refl
   where
-    by : (y : DateYear) → d.year ≡ y → date_of (with_date 1 d) ≡ d
-    by (year.Given y) e = rw e refl
-    by year.Absent e = rw e refl
+    by : (y : Option ℕ) → d.year ≡ y → date_of (with_date 1 d) ≡ d
+    by (Some y) e = rw e refl
+    by None e = rw e refl
 
 time_back : (t : Time) → time_of (with_time (counted 2 0 0 0) t) ≡ t
 unfolding time_of with_time time_offset_of
 time_back t = by t.offset refl
   where
-    signed_by : (o : Offset) (n : Bool) → t.offset ≡ offset.Given o → o.negative ≡ n → time_of (with_time (counted 2 0 0 0) t) ≡ t
+    signed_by : (o : Offset) (n : Bool) → t.offset ≡ Some o → o.negative ≡ n → time_of (with_time (counted 2 0 0 0) t) ≡ t
     signed_by o true e k = rw (e, k) refl
     signed_by o false e k = rw (e, k) refl
 
-    by : (o : TimeOffset) → t.offset ≡ o → time_of (with_time (counted 2 0 0 0) t) ≡ t
-    by (offset.Given o) e = signed_by o o.negative e refl
-    by offset.NotGiven e = rw e refl
+    by : (o : Option Offset) → t.offset ≡ o → time_of (with_time (counted 2 0 0 0) t) ≡ t
+    by (Some o) e = signed_by o o.negative e refl
+    by None e = rw e refl
 
 both_date : (v : DateTime) → date_of (with_time (with_date 3 v.date) v.time) ≡ v.date
 unfolding date_of with_time with_date year_of
 both_date v = by v.date.year refl v.time.offset refl
   where
-    signed_by : (y : DateYear) (o : Offset) (n : Bool) → v.date.year ≡ y → v.time.offset ≡ offset.Given o → o.negative ≡ n → date_of (with_time (with_date 3 v.date) v.time) ≡ v.date
-    signed_by (year.Given y) o true d e k = rw (d, e, k) refl
-    signed_by (year.Given y) o false d e k = rw (d, e, k) refl
-    signed_by year.Absent o true d e k = rw (d, e, k) refl
-    signed_by year.Absent o false d e k = rw (d, e, k) refl
+    signed_by : (y : Option ℕ) (o : Offset) (n : Bool) → v.date.year ≡ y → v.time.offset ≡ Some o → o.negative ≡ n → date_of (with_time (with_date 3 v.date) v.time) ≡ v.date
+    signed_by (Some y) o true d e k = rw (d, e, k) refl
+    signed_by (Some y) o false d e k = rw (d, e, k) refl
+    signed_by None o true d e k = rw (d, e, k) refl
+    signed_by None o false d e k = rw (d, e, k) refl
 
-    by : (y : DateYear) → v.date.year ≡ y → (o : TimeOffset) → v.time.offset ≡ o → date_of (with_time (with_date 3 v.date) v.time) ≡ v.date
-    by y d (offset.Given o) e = signed_by y o o.negative d e refl
-    by (year.Given y) d offset.NotGiven e = rw (d, e) refl
-    by year.Absent d offset.NotGiven e = rw (d, e) refl
+    by : (y : Option ℕ) → v.date.year ≡ y → (o : Option Offset) → v.time.offset ≡ o → date_of (with_time (with_date 3 v.date) v.time) ≡ v.date
+    by y d (Some o) e = signed_by y o o.negative d e refl
+    by (Some y) d None e = rw (d, e) refl
+    by None d None e = rw (d, e) refl
 
 both_time : (v : DateTime) → time_of (with_time (with_date 3 v.date) v.time) ≡ v.time
 unfolding time_of with_time with_date time_offset_of
 both_time v = by v.date.year refl v.time.offset refl
   where
-    signed_by : (y : DateYear) (o : Offset) (n : Bool) → v.date.year ≡ y → v.time.offset ≡ offset.Given o → o.negative ≡ n → time_of (with_time (with_date 3 v.date) v.time) ≡ v.time
-    signed_by (year.Given y) o true d e k = rw (d, e, k) refl
-    signed_by (year.Given y) o false d e k = rw (d, e, k) refl
-    signed_by year.Absent o true d e k = rw (d, e, k) refl
-    signed_by year.Absent o false d e k = rw (d, e, k) refl
+    signed_by : (y : Option ℕ) (o : Offset) (n : Bool) → v.date.year ≡ y → v.time.offset ≡ Some o → o.negative ≡ n → time_of (with_time (with_date 3 v.date) v.time) ≡ v.time
+    signed_by (Some y) o true d e k = rw (d, e, k) refl
+    signed_by (Some y) o false d e k = rw (d, e, k) refl
+    signed_by None o true d e k = rw (d, e, k) refl
+    signed_by None o false d e k = rw (d, e, k) refl
 
-    by : (y : DateYear) → v.date.year ≡ y → (o : TimeOffset) → v.time.offset ≡ o → time_of (with_time (with_date 3 v.date) v.time) ≡ v.time
-    by y d (offset.Given o) e = signed_by y o o.negative d e refl
-    by (year.Given y) d offset.NotGiven e = rw (d, e) refl
-    by year.Absent d offset.NotGiven e = rw (d, e) refl
+    by : (y : Option ℕ) → v.date.year ≡ y → (o : Option Offset) → v.time.offset ≡ o → time_of (with_time (with_date 3 v.date) v.time) ≡ v.time
+    by y d (Some o) e = signed_by y o o.negative d e refl
+    by (Some y) d None e = rw (d, e) refl
+    by None d None e = rw (d, e) refl
 
 -- ---- the item
 

@@ -12,7 +12,6 @@ use Rattle.extended.specs.Outcome as outcome
 use Rattle.extended.specs.Outcome.{Outcome, accepted, refused, number, check}
 use Rattle.primitive.proofs.Rows.{halves}
 use Rattle.items.specs.declared.Item.{Item}
-use Rattle.items.specs.declared.Slot.{Slot}
 use Rattle.extended.specs.Placed as placing
 use Rattle.extended.specs.Placed.{Placed, fine, refusal, ◌>>=◌, ◌>>◌}
 use Rattle.fields.specs.Fields.{little, fields_from, fields_at, item_of, fields_of, in_range, same_date, same_time, same_rest, same_later, same, fitting, unpacked, digits_used}
@@ -95,10 +94,10 @@ item_fields l area i used x e = by (unpacked (fields_at l i) used) refl e
     by (refused n) k g = let z : ◌≡◌ {A = ℕ} 0 1 = cc in absurd (clash z)
 
 module _ (l : List ℕ) (b : Bytes l) (area : List ℕ) where
-  abbrev Exact : ℕ → ℕ → List Slot → Type 0
+  abbrev Exact : ℕ → ℕ → List Item → Type 0
   Exact n i xs = (length xs ≡ n) × (drop (8 + 28 * i) l ≡ items xs (drop (8 + 28 * (i + n)) l))
 
-  items_exact : (n i used : ℕ) (xs : List Slot) → 8 + 28 * (i + n) ≤ length l → items_from l area n i used ≡ fine xs → Exact n i xs
+  items_exact : (n i used : ℕ) (xs : List Item) → 8 + 28 * (i + n) ≤ length l → items_from l area n i used ≡ fine xs → Exact n i xs
   unfolding items_from items
   items_exact zero i used xs h e = by (leb (length area) used) e
     where
@@ -107,30 +106,30 @@ module _ (l : List ℕ) (b : Bytes l) (area : List ℕ) where
       by false g = let z : ◌≡◌ {A = ℕ} 0 1 = cc in absurd (clash z)
   items_exact (suc n) i used xs h e = by (λ x ys. items_exact n (suc i) (used + digits_used x) ys (omega arith)) (item_at l area i used) refl e
     where
-      joined : (x : Item) (ys : List Slot) → item_at l area i used ≡ accepted x → Exact n (suc i) ys → Exact (suc n) i (record { item = x } ∷ ys)
+      joined : (x : Item) (ys : List Item) → item_at l area i used ≡ accepted x → Exact n (suc i) ys → Exact (suc n) i (x ∷ ys)
       joined x ys k r =
           let f = item_fields l area i used x k in
           let s : 8 + 28 * suc i ≡ 8 + 28 * i + 28 = omega arith in
           let t : suc i + n ≡ i + suc n = omega arith in
           (ap suc r.0, rw f (fields_here l b (8 + 28 * i) (omega arith) ∙ ap (fields (fields_from l (8 + 28 * i))) (rw (s, t) at r.1)))
 
-      split : (x : Item) (q : Placed (List Slot)) → item_at l area i used ≡ accepted x → ((ys : List Slot) → q ≡ fine ys → Exact n (suc i) ys) → (q >>= (λ ys. fine (record { item = x } ∷ ys))) ≡ fine xs → Exact (suc n) i xs
-      split x (fine ys) k later g = let s : record { item = x } ∷ ys ≡ xs = cc in rw (← s) (joined x ys k (later ys refl))
+      split : (x : Item) (q : Placed (List Item)) → item_at l area i used ≡ accepted x → ((ys : List Item) → q ≡ fine ys → Exact n (suc i) ys) → (q >>= (λ ys. fine (x ∷ ys))) ≡ fine xs → Exact (suc n) i xs
+      split x (fine ys) k later g = let s : x ∷ ys ≡ xs = cc in rw (← s) (joined x ys k (later ys refl))
       split x (refusal m at) k later g = let z : ◌≡◌ {A = ℕ} 0 1 = cc in absurd (clash z)
 
-      by : ((x : Item) (ys : List Slot) → items_from l area n (suc i) (used + digits_used x) ≡ fine ys → Exact n (suc i) ys) → (o : Outcome Item) → item_at l area i used ≡ o →
-          (placing.placed i o >>= (λ x. items_from l area n (suc i) (used + digits_used x) >>= (λ ys. fine (record { item = x } ∷ ys)))) ≡ fine xs → Exact (suc n) i xs
+      by : ((x : Item) (ys : List Item) → items_from l area n (suc i) (used + digits_used x) ≡ fine ys → Exact n (suc i) ys) → (o : Outcome Item) → item_at l area i used ≡ o →
+          (placing.placed i o >>= (λ x. items_from l area n (suc i) (used + digits_used x) >>= (λ ys. fine (x ∷ ys)))) ≡ fine xs → Exact (suc n) i xs
       by later (accepted x) k g = split x (items_from l area n (suc i) (used + digits_used x)) k (later x) g
       by later (refused m) k g = let z : ◌≡◌ {A = ℕ} 0 1 = cc in absurd (clash z)
 
 -- ---- the packet
 
 -- What is accepted is the packet of its items and of the digits behind them.
-pub packet_exact : (l : List ℕ) (xs : List Slot) → Bytes l → packet_items l ≡ fine xs → l ≡ packet xs (drop (8 + 28 * length xs) l)
+pub packet_exact : (l : List ℕ) (xs : List Item) → Bytes l → packet_items l ≡ fine xs → l ≡ packet xs (drop (8 + 28 * length xs) l)
 unfolding packet_items count packet
 packet_exact l xs b e = by (header l) refl e
   where
-    whole : number (header l) ≤ 0 → Exact l b (digits l) (little 2 0 l) 0 xs → l ≡ packet xs (drop (8 + 28 * length xs) l)
+    whole : accepted tt ≡ header l → Exact l b (digits l) (little 2 0 l) 0 xs → l ≡ packet xs (drop (8 + 28 * length xs) l)
     whole z r =
         let n = r.0 in
         let long = exact l z in
@@ -146,10 +145,10 @@ packet_exact l xs b e = by (header l) refl e
 
     by : (o : Outcome (Unit {0})) → header l ≡ o → (placing.placed 0 o >> items_from l (digits l) (little 2 0 l) 0 0) ≡ fine xs → l ≡ packet xs (drop (8 + 28 * length xs) l)
     by (accepted u) k g =
-        let z : number (header l) ≤ 0 = rw k (omega arith) in
+        let z = sym k in
         whole z (items_exact l b (digits l) (little 2 0 l) 0 0 xs (omega (arith, exact l z)) g)
     by (refused n) k g = let z : ◌≡◌ {A = ℕ} 0 1 = cc in absurd (clash z)
 
 -- So no two packets have the same items and digits.
-pub one_packet : (l m : List ℕ) (xs : List Slot) → Bytes l → Bytes m → packet_items l ≡ fine xs → packet_items m ≡ fine xs → drop (8 + 28 * length xs) l ≡ drop (8 + 28 * length xs) m → l ≡ m
+pub one_packet : (l m : List ℕ) (xs : List Item) → Bytes l → Bytes m → packet_items l ≡ fine xs → packet_items m ≡ fine xs → drop (8 + 28 * length xs) l ≡ drop (8 + 28 * length xs) m → l ≡ m
 one_packet l m xs b c e f d = packet_exact l xs b e ∙ ap (packet xs) d ∙ sym (packet_exact m xs c f)

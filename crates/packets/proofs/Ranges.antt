@@ -1,4 +1,5 @@
 -- Every item of a text is one that a packet holds. Assumes nothing.
+use Rattle.std.specs.Prelude.{Option, Some, None}
 use native.Mathlib.Omega.{arith}
 use Prim.Native.Nat.{ℕ, zero, suc, ◌+◌, ◌-◌, ◌/◌, ◌%◌, ◌^◌, ◌<◌, ◌≤◌}
 use mathlib.Core.Path.{◌≡◌, refl, sym}
@@ -17,14 +18,11 @@ use Rattle.primitive.specs.Primitive.{space, spaced, decimal, parse_uint, dec_ui
 use Rattle.primitive.specs.Epoch.{sec_and_nsec}
 use Rattle.primitive.specs.Ordinal.{signed, ordinals, text_ordinal, signed_number, number_ordinal, ordinal}
 use Rattle.primitive.specs.declared.SecAndNsec.{SecAndNsec}
-use Rattle.primitive.specs.declared.ReadSecAndNsec.TheVariants as read-seconds
 use Rattle.primitive.proofs.Limits.{nsec_limit}
 use Rattle.primitive.proofs.Rows.{halves, both}
 use Rattle.dates.specs.Year.{widened, year_from_str, year_str}
 use Rattle.dates.specs.Date.{date_of, exists, with_year, without_year, Written, written, unwritten, dated, ended_year, dated_behind, nothing, hyphen, comma, dotted, iso1, five_digits, iso2, us_date, slash_part, us_rest, us, literal_month, literal1, literal2, literal3, literal, parse_non_iso}
 use Rattle.dates.specs.declared.date.Date.{Date}
-use Rattle.dates.specs.declared.date.DateYear.{DateYear}
-use Rattle.dates.specs.declared.date.DateYear.TheVariants as year
 use Rattle.relative.specs.Relative.{direction, rounded, second_word, signed_seconds, seconds, days, units, stripped, in_unit, displaced, displacement}
 use Rattle.relative.specs.Relative.{parse as relative-parse}
 use Rattle.relative.specs.declared.Relative.{Relative}
@@ -35,13 +33,10 @@ use Rattle.times.specs.Time.{below, hour24, hour12, minute, second, optional_sec
 use Rattle.times.specs.declared.offset.Offset.{Offset}
 use Rattle.times.specs.declared.time.SecNsec.{SecNsec}
 use Rattle.times.specs.declared.time.Time.{Time}
-use Rattle.times.specs.declared.time.TimeOffset.{TimeOffset}
-use Rattle.times.specs.declared.time.TimeOffset.TheVariants as offset
 use Rattle.packets.proofs.Gives.{Gives, then_gives, after, next, unless_gives, or_gives, pure_gives, optional_gives, verify_gives, certain_gives, if_gives, spaced_gives, attempt_gives, by_match, of_match, no_more, one_more, named_gives}
 use Rattle.items.specs.Combined.{separator, starts_with_meridiem, unless_meridiem, iso_alone, combined_time, parse_time_after_date}
 use Rattle.items.specs.Items.{date_time_item, dated_item, iso_date, iso_item, date_item, time_item, relative_item, time_or_relative, other_item, parse_item, ended, further, items_from, parse_items}
 use Rattle.items.specs.declared.combined.DateTime.{DateTime}
-use Rattle.items.specs.declared.Slot.{Slot}
 use Rattle.items.specs.declared.Item.{Item}
 use Rattle.items.specs.declared.Item.TheVariants as item
 use Rattle.fields.specs.Fields.{unsigned, date_in_range, offset_in_range, time_in_range, in_range, year_field, with_date, with_time, counted, of_relative, fields_of, digits_used}
@@ -57,11 +52,11 @@ GoodDate d = date_in_range d.year d.month d.day ≡ true
 
 with_year_gives : (w : List ℕ) (m d : ℕ) → Gives GoodDate (with_year w m d)
 unfolding with_year year_from_str date_in_range
-with_year_gives w m d = then_gives GoodDate (λ y. leb y 2147485547 ≡ true) (year_from_str w) _ (verify_gives (λ y. leb y 2147485547 ≡ true) (leb (widened w) 2147485547) (widened w) (λ e. e)) (λ y h. verify_gives GoodDate (exists y m d) (date_of (year.Given y) m d) (λ e. both h e))
+with_year_gives w m d = then_gives GoodDate (λ y. leb y 2147485547 ≡ true) (year_from_str w) _ (verify_gives (λ y. leb y 2147485547 ≡ true) (leb (widened w) 2147485547) (widened w) (λ e. e)) (λ y h. verify_gives GoodDate (exists y m d) (date_of (Some y) m d) (λ e. both h e))
 
 without_year_gives : (m d : ℕ) → Gives GoodDate (without_year m d)
 unfolding without_year date_in_range
-without_year_gives m d = verify_gives GoodDate (exists 2000 m d) (date_of year.Absent m d) (λ e. e)
+without_year_gives m d = verify_gives GoodDate (exists 2000 m d) (date_of None m d) (λ e. e)
 
 dated_gives : (y : Written) (m d : ℕ) → Gives GoodDate (dated y m d)
 unfolding dated
@@ -149,7 +144,7 @@ abbrev Nanos : SecAndNsec → Type 0
 Nanos v = v.nsec < 1000000000
 
 nsec_gives : Gives Nanos sec_and_nsec
-nsec_gives = by_match Nanos sec_and_nsec (λ text at v n e. nsec_limit text at n v (read-seconds.Match v n) (sym e) refl)
+nsec_gives = by_match Nanos sec_and_nsec (λ text at v n e. nsec_limit text at n v (sym e))
 
 second_gives : Gives GoodSecond second
 unfolding second
@@ -169,9 +164,9 @@ optional_correction_gives : Gives (λ o. offset_in_range o ≡ true) optional_co
 unfolding optional_correction time_zone_correction offset_in_range
 optional_correction_gives =
     optional_gives (λ o. offset_in_range o ≡ true) _ _ refl
-    (then_gives (λ o. offset_in_range o ≡ true) GoodOffset time_zone_correction _ (unless_gives GoodOffset signed_fraction any_offset any_offset_gives) (λ o h. pure_gives (λ o. offset_in_range o ≡ true) (offset.Given o) h))
+    (then_gives (λ o. offset_in_range o ≡ true) GoodOffset time_zone_correction _ (unless_gives GoodOffset signed_fraction any_offset any_offset_gives) (λ o h. pure_gives (λ o. offset_in_range o ≡ true) (Some o) h))
 
-good_time : (h m : ℕ) (v : SecNsec) (o : TimeOffset) → Below 24 h → Below 60 m → GoodSecond v → offset_in_range o ≡ true → GoodTime (record { hour = h; minute = m; second = v.sec; nanosecond = v.nsec; offset = o })
+good_time : (h m : ℕ) (v : SecNsec) (o : Option Offset) → Below 24 h → Below 60 m → GoodSecond v → offset_in_range o ≡ true → GoodTime (record { hour = h; minute = m; second = v.sec; nanosecond = v.nsec; offset = o })
 unfolding time_in_range
 good_time h m v o a b c d =
     both (le-leb h 23 (omega (arith, ltb-true h 24 a))) (both (le-leb m 59 (omega (arith, ltb-true m 60 b))) (both (le-leb v.sec 59 (omega (arith, ltb-true v.sec 60 c.0))) (both (le-leb v.nsec 999999999 (omega (arith, c.1))) d)))
@@ -182,7 +177,7 @@ iso_gives =
     or_gives GoodTime _ _
     (then_gives GoodTime (Below 24) (below 24) _ (below_gives 24)
     (λ h a. then_gives GoodTime GoodOffset timezone_offset _ (unless_gives GoodOffset relative-parse any_offset any_offset_gives)
-    (λ o b. pure_gives GoodTime _ (good_time h 0 (record { sec = 0; nsec = 0 }) (offset.Given o) a refl (refl, omega arith) b))))
+    (λ o b. pure_gives GoodTime _ (good_time h 0 (record { sec = 0; nsec = 0 }) (Some o) a refl (refl, omega arith) b))))
     (then_gives GoodTime (Below 24) (below 24) _ (below_gives 24)
     (λ h a. next GoodTime colon _
     (then_gives GoodTime (Below 60) (below 60) _ (below_gives 60)
@@ -200,7 +195,7 @@ time_gives =
     (after GoodTime (below 13) _
     (λ h. then_gives GoodTime (Below 60) optional_minute _ optional_minute_gives
     (λ m b. then_gives GoodTime GoodSecond optional_second _ optional_second_gives
-    (λ v c. after GoodTime meridiem _ (λ pm. certain_gives GoodTime (ltb 0 h) _ (λ e. good_time (h % 12 + if pm 12 0) m v offset.NotGiven (twelve h pm) b c refl))))))
+    (λ v c. after GoodTime meridiem _ (λ pm. certain_gives GoodTime (ltb 0 h) _ (λ e. good_time (h % 12 + if pm 12 0) m v None (twelve h pm) b c refl))))))
     iso_gives
 
 -- ---- relative items
@@ -331,10 +326,10 @@ relative_gives =
 
 -- ---- items
 
-year_low : (y : DateYear) (m d : ℕ) → date_in_range y m d ≡ true → year_field y < 4294967296
+year_low : (y : Option ℕ) (m d : ℕ) → date_in_range y m d ≡ true → year_field y < 4294967296
 unfolding date_in_range
-year_low (year.Given y) m d h = omega (arith, leb-true y 2147485547 (halves (leb y 2147485547) (exists y m d) h).0)
-year_low year.Absent m d h = omega arith
+year_low (Some y) m d h = omega (arith, leb-true y 2147485547 (halves (leb y 2147485547) (exists y m d) h).0)
+year_low None m d h = omega arith
 
 nanosecond_low : (t : Time) → GoodTime t → t.nanosecond < 4294967296
 unfolding time_in_range
@@ -382,15 +377,15 @@ item_gives =
 
 -- ---- all of them
 
-pub data AllPlain : List Slot → Type 0 where
+pub data AllPlain : List Item → Type 0 where
   no_item : AllPlain []
-  one_item : {x : Slot} {xs : List Slot} → Plain x.item → AllPlain xs → AllPlain (x ∷ xs)
+  one_item : {x : Item} {xs : List Item} → Plain x → AllPlain xs → AllPlain (x ∷ xs)
 
-behind_all : (xs : List Slot) (x : Item) → AllPlain xs → Plain x → AllPlain (xs ++ (record { item = x } ∷ []))
+behind_all : (xs : List Item) (x : Item) → AllPlain xs → Plain x → AllPlain (xs ++ (x ∷ []))
 behind_all [] x no_item h = one_item h no_item
 behind_all (y ∷ xs) x (one_item g gs) h = one_item g (behind_all xs x gs h)
 
-items_plain : (room : ℕ) (xs : List Slot) (text : List ℕ) (at : ℕ) → AllPlain xs → AllPlain (items_from room xs text at).items
+items_plain : (room : ℕ) (xs : List Item) (text : List ℕ) (at : ℕ) → AllPlain xs → AllPlain (items_from room xs text at).items
 unfolding items_from
 items_plain zero xs text at g = go (ltb (space text at) (length text)) (parse_item text at)
   where
@@ -399,19 +394,19 @@ items_plain zero xs text at g = go (ltb (space text at) (length text)) (parse_it
     go true none = g
     go true stop = g
     go false a = g
-items_plain (suc room) xs text at g = go (λ v n h. items_plain room (xs ++ (record { item = v } ∷ [])) text n (behind_all xs v g h)) (ltb (space text at) (length text)) (parse_item text at) refl
+items_plain (suc room) xs text at g = go (λ v n h. items_plain room (xs ++ (v ∷ [])) text n (behind_all xs v g h)) (ltb (space text at) (length text)) (parse_item text at) refl
   where
-    go : ((v : Item) (n : ℕ) → Plain v → AllPlain (items_from room (xs ++ (record { item = v } ∷ [])) text n).items) → (t : Bool) (a : Answer Item) → parse_item text at ≡ a →
-        AllPlain (if t (further a xs at (λ v n. items_from room (xs ++ (record { item = v } ∷ [])) text n)) (ended xs 0 0)).items
+    go : ((v : Item) (n : ℕ) → Plain v → AllPlain (items_from room (xs ++ (v ∷ [])) text n).items) → (t : Bool) (a : Answer Item) → parse_item text at ≡ a →
+        AllPlain (if t (further a xs at (λ v n. items_from room (xs ++ (v ∷ [])) text n)) (ended xs 0 0)).items
     go later true (matched v n) e = later v n (of_match Plain parse_item item_gives text at v n e)
     go later true none e = g
     go later true stop e = g
     go later false a e = g
 
-in_order : (xs : List Slot) → AllPlain xs → InOrder 0 0 xs
+in_order : (xs : List Item) → AllPlain xs → InOrder 0 0 xs
 unfolding InOrder
 in_order [] no_item = refl
-in_order (x ∷ xs) (one_item g gs) = let z : 0 + digits_used x.item ≡ 0 = omega (arith, g.none_used) in (g.holds, omega arith, rw z (in_order xs gs))
+in_order (x ∷ xs) (one_item g gs) = let z : 0 + digits_used x ≡ 0 = omega (arith, g.none_used) in (g.holds, omega arith, rw z (in_order xs gs))
 
 -- The items of a text are items that a packet without digits holds, in their order.
 pub text_items : (text : List ℕ) → InOrder 0 0 (parse_items text).items

@@ -15,7 +15,6 @@ use Rattle.primitive.specs.Text.{lower, lowered, digit, past}
 use Rattle.primitive.proofs.Rows.{all, halves, run_all}
 use Rattle.items.specs.declared.Item.{Item}
 use Rattle.items.specs.declared.Item.TheVariants as item
-use Rattle.items.specs.declared.Slot.{Slot}
 use Rattle.extended.specs.Placed as placing
 use Rattle.extended.specs.Placed.{fine, ◌>>◌}
 use Rattle.builder.specs.Building.{build}
@@ -34,9 +33,9 @@ pub record Holds (used : ℕ) (x : Item) : Type 0 where
   pub begins : placed used x
 
 -- items that use up so many digits, in order
-unfoldable pub InOrder : ℕ → ℕ → List Slot → Type 0
+unfoldable pub InOrder : ℕ → ℕ → List Item → Type 0
 InOrder all used [] = used ≡ all
-InOrder all used (x ∷ xs) = Holds used x.item × (used + digits_used x.item ≤ all) × InOrder all (used + digits_used x.item) xs
+InOrder all used (x ∷ xs) = Holds used x × (used + digits_used x ≤ all) × InOrder all (used + digits_used x) xs
 
 -- ---- digits
 
@@ -68,12 +67,12 @@ one_item bytes area i used x rest h g k e =
     let s : 8 + 28 * suc i ≡ 8 + 28 * i + 28 = omega arith in
     (rw (r.0, unpacked_back x used g.range g.sums g.begins, stand area used (digits_used x) h k) refl, rw s r.1)
 
-all_items : (bytes area : List ℕ) (xs : List Slot) (i used : ℕ) → all digit area ≡ true → InOrder (length area) used xs → drop (8 + 28 * i) bytes ≡ items xs area → items_from bytes area (length xs) i used ≡ fine xs
+all_items : (bytes area : List ℕ) (xs : List Item) (i used : ℕ) → all digit area ≡ true → InOrder (length area) used xs → drop (8 + 28 * i) bytes ≡ items xs area → items_from bytes area (length xs) i used ≡ fine xs
 unfolding items_from items InOrder
 all_items bytes area [] i used h g e = rw (le-leb (length area) used (omega arith)) refl
 all_items bytes area (x ∷ xs) i used h g e =
-    let r = one_item bytes area i used x.item (items xs area) h g.0 g.1 e in
-    rw (r.0, all_items bytes area xs (suc i) (used + digits_used x.item) h g.2 r.1) refl
+    let r = one_item bytes area i used x (items xs area) h g.0 g.1 e in
+    rw (r.0, all_items bytes area xs (suc i) (used + digits_used x) h g.2 r.1) refl
 
 -- ---- the packet
 
@@ -88,10 +87,10 @@ few_used (item.Offset o) h = omega arith
 few_used item.LocalZone h = omega arith
 few_used (item.Relative r) h = omega arith
 
-few_digits : (n used : ℕ) (xs : List Slot) → InOrder n used xs → n ≤ used + 255 * length xs
+few_digits : (n used : ℕ) (xs : List Item) → InOrder n used xs → n ≤ used + 255 * length xs
 unfolding InOrder
 few_digits n used [] g = omega arith
-few_digits n used (x ∷ xs) g = omega (arith, few_digits n (used + digits_used x.item) xs g.2, few_used x.item g.0.range)
+few_digits n used (x ∷ xs) g = omega (arith, few_digits n (used + digits_used x) xs g.2, few_used x g.0.range)
 
 number_long : (n v : ℕ) (rest : List ℕ) → length (number n v rest) ≡ n + length rest
 unfolding number
@@ -107,21 +106,21 @@ fields_long f rest =
     let d = number_long 4 f.year (f.hour ∷ f.minute ∷ f.second ∷ f.flags ∷ number 4 f.nanosecond (f.offset_hours ∷ f.offset_minutes ∷ number 2 f.length (number 8 f.amount rest))) in
     omega arith
 
-items_long : (xs : List Slot) (rest : List ℕ) → length (items xs rest) ≡ 28 * length xs + length rest
+items_long : (xs : List Item) (rest : List ℕ) → length (items xs rest) ≡ 28 * length xs + length rest
 unfolding items
 items_long [] rest = omega arith
-items_long (x ∷ xs) rest = omega (arith, fields_long (fields_of x.item) (items xs rest), items_long xs rest)
+items_long (x ∷ xs) rest = omega (arith, fields_long (fields_of x) (items xs rest), items_long xs rest)
 
-behind_items : (bytes area : List ℕ) (n : ℕ) (xs : List Slot) (i used : ℕ) → InOrder n used xs → drop (8 + 28 * i) bytes ≡ items xs area → drop (8 + 28 * (i + length xs)) bytes ≡ area
+behind_items : (bytes area : List ℕ) (n : ℕ) (xs : List Item) (i used : ℕ) → InOrder n used xs → drop (8 + 28 * i) bytes ≡ items xs area → drop (8 + 28 * (i + length xs)) bytes ≡ area
 unfolding items InOrder
 behind_items bytes area n [] i used g e = let s : i + 0 ≡ i = omega arith in rw s e
 behind_items bytes area n (x ∷ xs) i used g e =
-    let r = fields_read (fields_of x.item) bytes (8 + 28 * i) (items xs area) g.0.fits e in
+    let r = fields_read (fields_of x) bytes (8 + 28 * i) (items xs area) g.0.fits e in
     let s : 8 + 28 * suc i ≡ 8 + 28 * i + 28 = omega arith in
     let t : i + suc (length xs) ≡ suc i + length xs = omega arith in
-    rw t (behind_items bytes area n xs (suc i) (used + digits_used x.item) g.2 (rw s r.1))
+    rw t (behind_items bytes area n xs (suc i) (used + digits_used x) g.2 (rw s r.1))
 
-module _ (xs : List Slot) (area : List ℕ) (few : length xs ≤ 64) (row : all digit area ≡ true) (order : InOrder (length area) 0 xs) where
+module _ (xs : List Item) (area : List ℕ) (few : length xs ≤ 64) (row : all digit area ≡ true) (order : InOrder (length area) 0 xs) where
   abbrev l : List ℕ
   l = packet xs area
 

@@ -5,7 +5,6 @@ use Rattle.relative.specs.declared.Relative.{Relative}
 use Rattle.relative.specs.declared.Relative.TheVariants as relative
 use Rattle.items.specs.declared.Item.{Item}
 use Rattle.items.specs.declared.Item.TheVariants as item
-use Rattle.items.specs.declared.Slot.{Slot}
 use Rattle.fields.specs.Fields.{fields_of}
 use Rattle.fields.specs.declared.Fields.{Fields}
 
@@ -20,12 +19,12 @@ fields f rest =
     f.kind ∷ f.which ∷ f.month ∷ f.day ∷ number 4 f.year
     (f.hour ∷ f.minute ∷ f.second ∷ f.flags ∷ number 4 f.nanosecond (f.offset_hours ∷ f.offset_minutes ∷ number 2 f.length (number 8 f.amount rest)))
 
-unfoldable pub items : List Slot → List ℕ → List ℕ
+unfoldable pub items : List Item → List ℕ → List ℕ
 items [] rest = rest
-items (x ∷ xs) rest = fields (fields_of x.item) (items xs rest)
+items (x ∷ xs) rest = fields (fields_of x) (items xs rest)
 
 -- "item count, offset of items (8), digit count, offset of digits (8 + 28 × items), u16 each; items of 28 bytes; digits, to its exact end"
-unfoldable pub packet : List Slot → List ℕ → List ℕ
+unfoldable pub packet : List Item → List ℕ → List ℕ
 packet xs digits = number 2 (length xs) (number 2 8 (number 2 (length digits) (number 2 (8 + 28 * length xs) (items xs digits))))
 
 -- ---- which items can be written

@@ -1,11 +1,12 @@
 -- The laws of the loop over a text's items: what is left to read from a place on, behind the items that are heeded. Assumes nothing.
+use Rattle.relative.specs.declared.Relative.{Relative}
 use native.Mathlib.Omega.{arith}
 use native.Mathlib.Numerals.{add-one}
 use Prim.Native.Nat.{ℕ, zero, suc, ◌+◌, ◌-◌, ◌<◌, ◌≤◌}
 use mathlib.Core.Path.{◌≡◌, refl, sym, ◌∙◌}
 use mathlib.Core.Bool.{Bool, true, false}
 use mathlib.Core.List.{List, [], ◌∷◌, ◌++◌}
-use lib.ListN.{length, length-append, take, set}
+use lib.ListN.{length, length-append}
 use lib.Dec.{ltb}
 use borrow.Author.Tests.{lt-ltb, le-ltb}
 use Rattle.primitive.specs.Answer.{Answer, matched, none, stop, if}
@@ -13,18 +14,12 @@ use Rattle.primitive.specs.Text.{lowered}
 use Rattle.primitive.specs.Primitive.{space}
 use Rattle.primitive.proofs.Lowered.{length_lowered}
 use Rattle.extended.specs.declared.ExtendedDateTime.{ExtendedDateTime}
-use Rattle.items.specs.Items.{item_answer, parse_item, ended, further, items_from, parse_items}
+use Rattle.items.specs.Items.{parse_item, ended, further, items_from, parse_items}
 use Rattle.items.specs.declared.Item.{Item}
-use Rattle.items.specs.declared.Slot.{Slot}
-use Rattle.items.specs.declared.ReadItem.{ReadItem}
-use Rattle.items.specs.declared.ReadItem.TheVariants as got
 use Rattle.extended.specs.Placed.{Placed, fine, refusal, ◌>>=◌}
-use Rattle.rules.specs.Rules.{empty, gather, heed, relative_of, relatives, standing_of}
+use Rattle.rules.specs.Rules.{empty, gather, heed, relative_of, relatives}
 use Rattle.rules.specs.declared.DateTimeBuilder.{DateTimeBuilder}
-use Rattle.rules.specs.declared.RelativePlace.{RelativePlace}
-use Rattle.rules.specs.declared.Standing.{Standing}
-use Rattle.rules.specs.declared.Found.{Found}
-use Rattle.rules.proofs.Order.{rules_more, relatives_more, one_more}
+use Rattle.rules.proofs.Order.{rules_more, relatives_more}
 use Rattle.builder.specs.Building.{built, build}
 use Rattle.reading.specs.Reading.{items_of, build_text}
 
@@ -35,21 +30,21 @@ go_on none at f = refusal 3 at
 go_on stop at f = refusal 4 at
 
 -- the answer, with room for so many more items behind those of which p and rs were made
-pub rest : List ℕ → ExtendedDateTime → ℕ → ℕ → Placed DateTimeBuilder → List RelativePlace → ℕ → Placed ExtendedDateTime
+pub rest : List ℕ → ExtendedDateTime → ℕ → ℕ → Placed DateTimeBuilder → List Relative → ℕ → Placed ExtendedDateTime
 rest text base zero i p rs at = if (ltb (space text at) (length text)) (go_on (parse_item text at) at (λ v n. refusal 1 0)) (built p rs base)
 rest text base (suc room) i p rs at =
     if (ltb (space text at) (length text)) (go_on (parse_item text at) at (λ v n. rest text base room (suc i) (heed [] i v p) (rs ++ relative_of v) n)) (built p rs base)
 
 -- an item more, in the words of the definition
-more : (text : List ℕ) (base : ExtendedDateTime) (room : ℕ) (xs : List Slot) (x : Slot) (n : ℕ) (v : Placed ExtendedDateTime) →
+more : (text : List ℕ) (base : ExtendedDateTime) (room : ℕ) (xs : List Item) (x : Item) (n : ℕ) (v : Placed ExtendedDateTime) →
     v ≡ rest text base room (length (xs ++ (x ∷ []))) (gather [] 0 empty (xs ++ (x ∷ []))) (relatives (xs ++ (x ∷ []))) n →
-    v ≡ rest text base room (suc (length xs)) (heed [] (length xs) x.item (gather [] 0 empty xs)) (relatives xs ++ relative_of x.item) n
+    v ≡ rest text base room (suc (length xs)) (heed [] (length xs) x (gather [] 0 empty xs)) (relatives xs ++ relative_of x) n
 more text base room xs x n v e =
     let l : length (xs ++ (x ∷ [])) ≡ suc (length xs) = length-append xs (x ∷ []) ∙ add-one (length xs) in
     rw (l, rules_more [] xs x, relatives_more xs x) at e
 
 -- the definition reads all items first
-whole : (text : List ℕ) (base : ExtendedDateTime) (room : ℕ) (xs : List Slot) (at : ℕ) →
+whole : (text : List ℕ) (base : ExtendedDateTime) (room : ℕ) (xs : List Item) (at : ℕ) →
     (items_of (items_from room xs text at) >>= (λ ys. build [] ys base)) ≡ rest text base room (length xs) (gather [] 0 empty xs) (relatives xs) at
 unfolding rest items_from items_of build
 whole text base zero xs at = by (ltb (space text at) (length text)) (parse_item text at)
@@ -60,13 +55,13 @@ whole text base zero xs at = by (ltb (space text at) (length text)) (parse_item 
     by true (matched v n) = refl
     by true none = refl
     by true stop = refl
-whole text base (suc room) xs at = by (λ v n. more text base room xs (record { item = v }) n _ (whole text base room (xs ++ (record { item = v } ∷ [])) n)) (ltb (space text at) (length text)) (parse_item text at)
+whole text base (suc room) xs at = by (λ v n. more text base room xs v n _ (whole text base room (xs ++ (v ∷ [])) n)) (ltb (space text at) (length text)) (parse_item text at)
   where
     by :
         ((v : Item) (n : ℕ) →
-        (items_of (items_from room (xs ++ (record { item = v } ∷ [])) text n) >>= (λ ys. build [] ys base)) ≡ rest text base room (suc (length xs)) (heed [] (length xs) v (gather [] 0 empty xs)) (relatives xs ++ relative_of v) n) →
+        (items_of (items_from room (xs ++ (v ∷ [])) text n) >>= (λ ys. build [] ys base)) ≡ rest text base room (suc (length xs)) (heed [] (length xs) v (gather [] 0 empty xs)) (relatives xs ++ relative_of v) n) →
         (t : Bool) (a : Answer Item) →
-        (items_of (if t (further a xs at (λ v n. items_from room (xs ++ (record { item = v } ∷ [])) text n)) (ended xs 0 0)) >>= (λ ys. build [] ys base))
+        (items_of (if t (further a xs at (λ v n. items_from room (xs ++ (v ∷ [])) text n)) (ended xs 0 0)) >>= (λ ys. build [] ys base))
         ≡ if t (go_on a at (λ v n. rest text base room (suc (length xs)) (heed [] (length xs) v (gather [] 0 empty xs)) (relatives xs ++ relative_of v) n)) (built (gather [] 0 empty xs) (relatives xs) base)
     by later false a = refl
     by later true (matched v n) = later v n
@@ -75,53 +70,51 @@ whole text base (suc room) xs at = by (λ v n. more text base room xs (record { 
 
 -- ---- the loop
 
--- what is left when `count` items are read to a place, with their relative ones in the first `found` places
-pub left : List ℕ → ExtendedDateTime → ℕ → ℕ → Standing → List RelativePlace → ℕ → Placed ExtendedDateTime
-left text base count found st rs at = rest text base (64 - count) count (standing_of st) (take found rs) at
+-- what is left when `count` items are read to a place
+pub left : List ℕ → ExtendedDateTime → ℕ → Placed DateTimeBuilder → List Relative → ℕ → Placed ExtendedDateTime
+left text base count p rs at = rest text base (64 - count) count p rs at
 
-pub left_start : (text : List ℕ) (base : ExtendedDateTime) (st : Standing) (rs : List RelativePlace) → standing_of st ≡ fine empty → left text base 0 0 st rs 0 ≡ build_text text base
+pub left_start : (text : List ℕ) (base : ExtendedDateTime) (p : Placed DateTimeBuilder) (rs : List Relative) → p ≡ fine empty → rs ≡ [] → left text base 0 p rs 0 ≡ build_text text base
 unfolding left build_text parse_items relatives gather
-left_start text base st rs e = rw e (sym (whole text base 64 [] 0))
+left_start text base p rs e k = rw (e, k) (sym (whole text base 64 [] 0))
 
 -- what an item that was read leads to
-behind : List ℕ → ExtendedDateTime → ℕ → ℕ → Placed DateTimeBuilder → List RelativePlace → Item → ℕ → Placed ExtendedDateTime
+behind : List ℕ → ExtendedDateTime → ℕ → ℕ → Placed DateTimeBuilder → List Relative → Item → ℕ → Placed ExtendedDateTime
 behind text base zero i p rs v n = refusal 1 0
 behind text base (suc room) i p rs v n = rest text base room (suc i) (heed [] i v p) (rs ++ relative_of v) n
 
-one_turn : (text : List ℕ) (base : ExtendedDateTime) (room i : ℕ) (p : Placed DateTimeBuilder) (rs : List RelativePlace) (at : ℕ) →
+one_turn : (text : List ℕ) (base : ExtendedDateTime) (room i : ℕ) (p : Placed DateTimeBuilder) (rs : List Relative) (at : ℕ) →
     rest text base room i p rs at ≡ if (ltb (space text at) (length text)) (go_on (parse_item text at) at (behind text base room i p rs)) (built p rs base)
 unfolding rest behind
 one_turn text base zero i p rs at = refl
 one_turn text base (suc room) i p rs at = refl
 
-module _ (s : List ℕ) (base : ExtendedDateTime) (count found : ℕ) (st : Standing) (rs : List RelativePlace) (at : ℕ) (v : Placed ExtendedDateTime)
-    (inv : left (lowered s) base count found st rs at ≡ v) (start : ℕ) (here : start ≡ space (lowered s) at) where
-  opened :
-      if (ltb start (length s)) (go_on (parse_item (lowered s) at) at (behind (lowered s) base (64 - count) count (standing_of st) (take found rs))) (built (standing_of st) (take found rs) base) ≡ v
+module _ (s : List ℕ) (base : ExtendedDateTime) (count : ℕ) (p : Placed DateTimeBuilder) (rs : List Relative) (at : ℕ) (v : Placed ExtendedDateTime)
+    (inv : left (lowered s) base count p rs at ≡ v) (start : ℕ) (here : start ≡ space (lowered s) at) where
+  opened : if (ltb start (length s)) (go_on (parse_item (lowered s) at) at (behind (lowered s) base (64 - count) count p rs)) (built p rs base) ≡ v
   unfolding left
-  opened = rw (here, ← length_lowered s) (sym (one_turn (lowered s) base (64 - count) count (standing_of st) (take found rs) at) ∙ inv)
+  opened = rw (here, ← length_lowered s) (sym (one_turn (lowered s) base (64 - count) count p rs at) ∙ inv)
 
-  pub left_end : length s ≤ start → (r : Placed ExtendedDateTime) → r ≡ built (standing_of st) (take found rs) base → r ≡ v
+  pub left_end : length s ≤ start → (r : Placed ExtendedDateTime) → r ≡ built p rs base → r ≡ v
   left_end h r k = rw k (rw (le-ltb start (length s) h) at opened)
 
-  module _ (h : start < length s) (r : ReadItem) (e : item_answer r ≡ parse_item (lowered s) at) where
-    read : go_on (item_answer r) at (behind (lowered s) base (64 - count) count (standing_of st) (take found rs)) ≡ v
-    read = rw (lt-ltb start (length s) h, ← e) at opened
+  module _ (h : start < length s) where
+    read : go_on (parse_item (lowered s) at) at (behind (lowered s) base (64 - count) count p rs) ≡ v
+    read = rw (lt-ltb start (length s) h) at opened
 
-    pub left_unread : r ≡ got.NoMatch → refusal 3 at ≡ v
-    left_unread k = rw k at read
+    pub left_unread : none ≡ parse_item (lowered s) at → refusal 3 at ≡ v
+    left_unread e = rw (← e) at read
 
-    pub left_stopped : r ≡ got.Stop → refusal 4 at ≡ v
-    left_stopped k = rw k at read
+    pub left_stopped : stop ≡ parse_item (lowered s) at → refusal 4 at ≡ v
+    left_stopped e = rw (← e) at read
 
-    module _ (x : Item) (n : ℕ) (k : r ≡ got.Match x n) where
+    module _ (x : Item) (n : ℕ) (e : matched x n ≡ parse_item (lowered s) at) where
       pub left_full : count ≡ 64 → refusal 1 0 ≡ v
       unfolding behind
-      left_full c = let z : 64 - count ≡ 0 = omega arith in rw (k, z) at read
+      left_full c = let z : 64 - count ≡ 0 = omega arith in rw (← e, z) at read
 
-      pub left_next : (count ≡ 64 → ⊥) → count ≤ 64 → 64 ≡ length rs → found ≤ count → (next : Standing) → standing_of next ≡ heed [] count x (standing_of st) → (f : Found) →
-          take f.count (f.place ∷ []) ≡ relative_of x → f.count ≤ 1 → left (lowered s) base (count + 1) (found + f.count) next (set rs found f.place) n ≡ v
+      pub left_next : (count ≡ 64 → ⊥) → count ≤ 64 → (q : Placed DateTimeBuilder) → q ≡ heed [] count x p → (ys : List Relative) → ys ≡ rs ++ relative_of x → left (lowered s) base (count + 1) q ys n ≡ v
       unfolding behind left
-      left_next d l g b next q f o few =
+      left_next d l q f ys g =
           let z : 64 - count ≡ suc (64 - suc count) = omega arith in
-          rw (add-one count, one_more found f.count rs (relative_of x) f.place few o (omega arith), q) (rw (k, z) at read)
+          rw (add-one count, f, g) (rw (← e, z) at read)

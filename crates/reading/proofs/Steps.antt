@@ -11,11 +11,9 @@ use lib.ListN.{length}
 use Rattle.primitive.specs.Answer.{if}
 use Rattle.primitive.specs.Text.{lower, lowered}
 use Rattle.primitive.proofs.Lowered.{length_lowered, lower_above}
-use Rattle.extended.specs.Outcome.{number}
+use Rattle.extended.specs.Outcome.{accepted, refused}
 use Rattle.extended.specs.Extended.{test}
 use Rattle.extended.specs.declared.ExtendedDateTime.{ExtendedDateTime}
-use Rattle.extended.proofs.Outcomes.{refused_by, passed}
-use Rattle.extended.proofs.Records.{record_proper}
 use Rattle.extended.specs.Placed.{Placed, refusal}
 use Rattle.reading.specs.Reading.{ascii, ascii_end, build_text, read_lowered, read_text}
 
@@ -34,23 +32,25 @@ ascii_low b h = go (leb 65 b) (leb b 90) refl
     go true false e = sym (lt-ltb b 128 h)
     go false u e = sym (lt-ltb b 128 h)
 
-module _ (s : List ℕ) (base : ExtendedDateTime) (n : ℕ) (e : n ≡ number (test base)) where
-  pub base_refused : 0 < n → refusal n 0 ≡ read_text s base
-  unfolding read_text read_lowered
-  base_refused h = rw (refused_by (test base) e h)
+-- ---- the tests
 
-  module _ (h : n ≤ 0) where
+module _ (s : List ℕ) (base : ExtendedDateTime) where
+  pub base_refused : (n : ℕ) → refused n ≡ test base → refusal n 0 ≡ read_text s base
+  unfolding read_text read_lowered
+  base_refused n e = rw (← e)
+
+  module _ (u : Unit {0}) (e : accepted u ≡ test base) where
     pub oversize : 4096 < length s → refusal 1 0 ≡ read_text s base
     unfolding read_text read_lowered
-    oversize l = rw (passed (record_proper base) e h, length_lowered s, lt-leb (length s) 4096 l)
+    oversize l = rw (← e, length_lowered s, lt-leb (length s) 4096 l)
 
     module _ (l : length s ≤ 4096) (end : ℕ) (g : end ≡ ascii_end (lowered s)) where
       pub foreign : end < length s → refusal 2 end ≡ read_text s base
       unfolding read_text read_lowered
-      foreign k = rw (passed (record_proper base) e h, length_lowered s, le-leb (length s) 4096 l, ← g, lt-leb (length s) end k)
+      foreign k = rw (← e, length_lowered s, le-leb (length s) 4096 l, ← g, lt-leb (length s) end k)
 
       pub all_read : length s ≤ end → (r : Placed ExtendedDateTime) → r ≡ build_text (lowered s) base → r ≡ read_text s base
       unfolding read_text read_lowered
-      all_read k r q = rw (passed (record_proper base) e h, length_lowered s, le-leb (length s) 4096 l, ← g, le-leb (length s) end k) q
+      all_read k r q = rw (← e, length_lowered s, le-leb (length s) 4096 l, ← g, le-leb (length s) end k) q
 
-pub ruleset steps = (base_refused, oversize, foreign, all_read, rules)
+pub ruleset steps = (base_refused, oversize, foreign, all_read, ascii_low, ascii_high, rules)

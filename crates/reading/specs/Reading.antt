@@ -1,4 +1,5 @@
 -- A text read under a base: document 01, 'Domain and limits' and 'Answers by number'.
+use Rattle.items.specs.declared.Item.{Item}
 use Rattle.std.specs.Prelude.{ℕ, Bool, List, [], ltb, leb, eqb, length}
 use Rattle.extended.specs.Outcome.{check}
 use Rattle.extended.specs.Extended.{test}
@@ -6,7 +7,6 @@ use Rattle.extended.specs.declared.ExtendedDateTime.{ExtendedDateTime}
 use Rattle.primitive.specs.Answer.{if}
 use Rattle.primitive.specs.Text.{lowered, past}
 use Rattle.items.specs.Items.{Parsed, parse_items}
-use Rattle.items.specs.declared.Slot.{Slot}
 use Rattle.extended.specs.Placed.{Placed, fine, refusal, placed, ◌>>=◌, ◌>>◌}
 use Rattle.builder.specs.Building.{build}
 
@@ -19,7 +19,7 @@ unfoldable pub ascii_end : List ℕ → ℕ
 ascii_end text = past ascii text 0
 
 -- the items, or the number and the place where their reading ended
-unfoldable pub items_of : Parsed → Placed (List Slot)
+unfoldable pub items_of : Parsed → Placed (List Item)
 items_of p = if (eqb p.number 0) (fine p.items) (refusal p.number p.place)
 
 -- "items left to right; the builder's rules in item order; then building". No text has an item that comes by packet only.

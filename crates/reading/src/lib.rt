@@ -5,14 +5,13 @@
 
 ghost use Rattle.std.specs.Prelude.{◌≡◌};
 ghost use Rattle.primitive.specs.Text.{lower, lowered};
-ghost use Rattle.builder.specs.Building.{built_of};
+ghost use Rattle.extended.specs.Refusals.{placed_of};
 ghost use Rattle.reading.specs.Reading.{ascii, ascii_end, build_text, read_text};
 
-use builder::Built;
-use extended::ExtendedDateTime;
-use items::ReadItem;
+use arrayvec::ArrayVec;
+use extended::{ExtendedDateTime, PlacedRefusal, Refusal};
+use primitive::Miss;
 use relative::Relative;
-use rules::RelativePlace;
 
 // The longest text that is read.
 const MAX_LENGTH: usize = 4096;
@@ -20,83 +19,66 @@ const MAX_LENGTH: usize = 4096;
 const MOST_ITEMS: usize = 64;
 
 #[tactic(auto, using(crate::proofs::Steps::steps))]
-pub fn read_text(text: &[u8], base: ExtendedDateTime) -> Built
-    ensures { built_of result ≡ read_text text.now base }
+pub fn read_text(text: &[u8], base: ExtendedDateTime) -> Result<ExtendedDateTime, PlacedRefusal>
+    ensures { placed_of result ≡ read_text text.now base }
 {
-    let number = base.refusal();
-    if number > 0 {
-        return Built::Refused(number, 0);
-    }
+    base.test()?;
     if text.len() > MAX_LENGTH {
-        return Built::Refused(1, 0);
+        return Err(Refusal::Oversize.at(0));
     }
     let end = ascii_end(text);
     if end < text.len() {
-        return Built::Refused(2, end);
+        return Err(Refusal::Foreign.at(end));
     }
     build_text(text, base)
 }
 
 // Where the bytes below 128 at the front end.
+#[tactic(auto, using(primitive::proofs::Runs::runs), unfolding(crate::specs::Reading::ascii_end))]
 fn ascii_end(text: &[u8]) -> usize
     ensures { result ≡ ascii_end (lowered text.now) }
 {
-    let mut i = 0;
-    while i < text.len() {
-        if is_ascii(text[i]) {
-            i += 1;
-        } else {
+    // primitive's `past` has a premise about its closure, so it is not public; with `position` the proof did not close
+    for i in 0..text.len() {
+        if !is_ascii(text[i]) {
             return i;
         }
     }
-    i
+    text.len()
 }
 
 // Whether the byte in lower case is below 128: exactly where it is so itself.
+#[tactic(auto, using(crate::proofs::Steps::steps))]
 fn is_ascii(byte: u8) -> bool
     ensures { result ≡ ascii (lower byte) }
 {
-    if byte < 128 {
-        return true;
-    }
-    false
+    byte < 128
 }
 
 // The record of a text's items, 64 at most: 1 where a 65th is read, 3 where no reader matches and 4 where one stops, these two at the end
 // of the item before. Each item is heeded as it is read, and none is kept but the relative ones; a broken rule is answered behind the last.
-fn build_text(text: &[u8], base: ExtendedDateTime) -> Built
-    ensures { built_of result ≡ build_text (lowered text.now) base }
+fn build_text(text: &[u8], base: ExtendedDateTime) -> Result<ExtendedDateTime, PlacedRefusal>
+    ensures { placed_of result ≡ build_text (lowered text.now) base }
 {
     let mut standing = heeding::start();
-    let none = RelativePlace {
-        relative: Relative::Days(0),
-    };
-    let mut relatives = [none; 64];
-    let mut found = 0;
+    let mut relatives = ArrayVec::new();
     let mut count = 0;
     let mut i = 0;
+    // a step is as long as the item that was read, so there is no range
     while spaces::space(text, i) < text.len() {
-        let read = item_forms::parse_item(text, i);
-        match read {
-            ReadItem::Match(item, next) => {
+        match item_forms::parse_item(text, i) {
+            Ok((item, next)) => {
                 if count == MOST_ITEMS {
-                    return Built::Refused(1, 0);
+                    return Err(Refusal::Oversize.at(0));
                 }
-                standing = heeding::heed(standing, &text[0..0], item, count);
-                let more = heeding::relative_of(item);
-                let place = more.place;
-                relatives[found] = place;
-                found += more.count;
+                standing = heeding::heed(standing, &[], item, count);
+                heeding::keep_relative(&mut relatives, item);
                 count += 1;
                 i = next;
             }
-            ReadItem::NoMatch => {
-                return Built::Refused(3, i);
-            }
-            ReadItem::Stop => {
-                return Built::Refused(4, i);
-            }
+            Err(Miss::NoMatch) => return Err(Refusal::Unread.at(i)),
+            Err(Miss::Stop) => return Err(Refusal::Stopped.at(i)),
         }
     }
-    builder::build(standing, relatives, found, base)
+    builder::build(standing, relatives.as_slice(), base)
 }

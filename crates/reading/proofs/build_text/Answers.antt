@@ -1,45 +1,32 @@
--- `build_text` is its definition. Assumes nothing.
-use borrow.Author.Rules.{rules}
+-- `build_text` is its definition.
 use native.Mathlib.Omega.{arith}
-use mathlib.Core.Path.{refl}
 use Rattle.primitive.specs.Text.{lowered}
 use Rattle.reading.proofs.Loop.{left_start, left_end, left_unread, left_stopped, left_full, left_next}
 use Rattle.reading.proofs.build_text.Goals as goal
 
-pub loop-read-init : goal.loop-read-init
-loop-read-init c = (omega arith, omega arith, refl, left_start _ _ _ _ c.start-standing.ensures)
+pub loop-item-init : goal.loop-item-init
+loop-item-init c = (omega arith, rw c.new-relatives.ensures (omega arith), left_start _ _ _ _ c.start-standing.ensures c.new-relatives.ensures)
 
 pub returns-then-count-eq-MOST_ITEMS : goal.returns-then-count-eq-MOST_ITEMS
 returns-then-count-eq-MOST_ITEMS c =
-    let r = c in
-    let l = r in
-    left_full _ _ _ _ _ _ _ _ l.loop-read.invariant.3 _ r.space.ensures r.loop-read-test.true _ r.parse_item-read.ensures _ _ c.in-Match.is c.if-count-eq-MOST_ITEMS.true
+    rw c.at.ensures (left_full _ _ _ _ _ _ _ c.loop-item.invariant.2 _ c.space.ensures c.loop-item-test.true _ _ c.in-Ok.ensures c.if-count-eq-MOST_ITEMS.true)
 
-pub loop-read-preserved : goal.loop-read-preserved
+pub loop-item-preserved : goal.loop-item-preserved
 unfolding lowered
-loop-read-preserved c =
-    let r = c in
-    let l = r in
-    let a = l.args in
-    let v = l.loop-read in
-    let f = c.relative_of-more.ensures in (
+loop-item-preserved c =
+    let v = c.loop-item in (
       omega arith,
-      omega arith,
-      search rules,
-      left_next a.text.now a.base v.count v.found v.standing v.relatives v.i _ v.invariant.3 _ r.space.ensures r.loop-read-test.true _ r.parse_item-read.ensures _ _ c.in-Match.is c.if-count-eq-MOST_ITEMS.false v.invariant.0 v.invariant.2 v.invariant.1 c.heed-standing.result c.heed-standing.ensures c.relative_of-more.result f.0 f.1,
+      omega (arith, c.keep_relative.ensures.few),
+      left_next _ _ _ _ _ _ _ v.invariant.2 _ c.space.ensures c.loop-item-test.true _ _ c.in-Ok.ensures c.if-count-eq-MOST_ITEMS.false v.invariant.0 _ c.heed-standing.ensures _ (c.keep_relative.ensures.kept (omega arith)),
     )
 
-pub returns-in-NoMatch : goal.returns-in-NoMatch
-returns-in-NoMatch c =
-    let r = c in
-    let l = r in
-    left_unread _ _ _ _ _ _ _ _ l.loop-read.invariant.3 _ r.space.ensures r.loop-read-test.true _ r.parse_item-read.ensures c.in-NoMatch.is
+pub returns-in-Err-NoMatch : goal.returns-in-Err-NoMatch
+returns-in-Err-NoMatch c =
+    rw c.at-in-Err-NoMatch.ensures (left_unread _ _ _ _ _ _ _ c.loop-item.invariant.2 _ c.space.ensures c.loop-item-test.true (rw c.in-Err-NoMatch.field-0-is at c.in-Err-NoMatch.ensures))
 
-pub returns-in-Stop : goal.returns-in-Stop
-returns-in-Stop c =
-    let r = c in
-    let l = r in
-    left_stopped _ _ _ _ _ _ _ _ l.loop-read.invariant.3 _ r.space.ensures r.loop-read-test.true _ r.parse_item-read.ensures c.in-Stop.is
+pub returns-in-Err-Stop : goal.returns-in-Err-Stop
+returns-in-Err-Stop c =
+    rw c.at-in-Err-Stop.ensures (left_stopped _ _ _ _ _ _ _ c.loop-item.invariant.2 _ c.space.ensures c.loop-item-test.true (rw c.in-Err-Stop.field-0-is at c.in-Err-Stop.ensures))
 
 pub returns : goal.returns
-returns c = let l = c in left_end _ _ _ _ _ _ _ _ l.loop-read.invariant.3 _ c.space.ensures c.loop-read-test.false _ c.build.ensures
+returns c = left_end _ _ _ _ _ _ _ c.loop-item.invariant.2 _ c.space.ensures c.loop-item-test.false _ (rw c.as_slice.ensures.value at c.build.ensures)

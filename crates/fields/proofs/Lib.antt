@@ -1,3 +1,0 @@
--- The laws of the crate `fields`.
-pub mod Numbers
-pub mod Cases
