@@ -1,6 +1,7 @@
 -- The laws of a text that is put at a place. Assumes nothing.
 use native.Mathlib.Omega.{arith}
 use borrow.Author.Tests.{lt-ltb, le-ltb}
+use borrow.Rule.Slice.PartMut.{mid_of, put_mid, mid_len}
 use Prim.Native.Nat.{ℕ, ◌+◌, ◌-◌, ◌<◌, ◌≤◌}
 use native.Mathlib.Numerals.{add-one}
 use mathlib.Core.Path.{◌≡◌, refl, ◌∙◌, ap}
@@ -8,19 +9,18 @@ use mathlib.Core.List.{List, [], ◌∷◌, ◌++◌, append_assoc}
 use lib.ListN.{length, take, drop, set, length-append, take-append-drop}
 use lib.Seq.{length-take-le, set_split, take_at, drop-append-add, drop-append-le, drop-drop}
 use Rattle.extended.specs.Outcome.{Outcome, accepted, refused, number}
-use Rattle.extended.specs.declared.ExtendedDateTime.{ExtendedDateTime}
-use Rattle.builder.specs.Building.{built_of}
-use Rattle.builder.specs.declared.Built.{Built}
-use Rattle.builder.specs.declared.Built.TheVariants as done
-use Rattle.writer.specs.Writer.{fixed, width, digits, written, bytes_of}
+use Rattle.writer.specs.Writer.{fixed, width, digits, bytes_of}
 use Rattle.writer.proofs.Digits.{fixed_length, width_some}
-use Rattle.writer.proofs.Filling.{filled}
-use Rattle.answers.specs.Answers.{refusal_line, written_line, line_answer, put_at, Put}
+use Rattle.answers.specs.Answers.{refusal_line, written_line, put_at, Put}
 
 -- the digits of a number, filled in
-pub digits_put : (out : List ℕ) (at n : ℕ) → filled out at (width n) n ≡ put_at (digits n) at out
-unfolding filled put_at digits
-digits_put out at n = rw (fixed_length (width n) n)
+pub digits_put : (out ys : List ℕ) (at k n : ℕ) → k ≡ width n → at + k ≤ length out → ys ≡ fixed (length (mid_of at (at + k - at) out)) n → Put (digits n) at out (at + k) (put_mid at (at + k - at) out ys)
+unfolding put_at digits
+digits_put out ys at k n e h f =
+    let m : at + k - at ≡ k = omega arith in
+    let l : length (mid_of at (at + k - at) out) ≡ at + k - at = mid_len at (at + k) out h in
+    let g : ys ≡ fixed (width n) n = f ∙ rw (l, m, e) in
+    record { place = rw (fixed_length (width n) n, e); bytes = rw (g, m, drop-drop k at out, fixed_length (width n) n, e) }
 
 pub byte_put : (out : List ℕ) (at b : ℕ) → at < length out → set out at b ≡ put_at (b ∷ []) at out
 unfolding put_at
@@ -83,9 +83,14 @@ refusal_long n at =
     let b = width_some at in
     rw (length-append (fixed (width n) n) (32 ∷ (fixed (width at) at ++ (10 ∷ []))), length-append (fixed (width at) at) (10 ∷ []), fixed_length (width n) n, fixed_length (width at) at) (omega arith)
 
-module _ {out o₁ o₂ o₃ : List ℕ} {r₁ r₂ r₃ : ℕ} (o : Outcome (List ℕ)) (a : Put (48 ∷ []) 0 out r₁ o₁) (b : Put (32 ∷ []) r₁ o₁ r₂ o₂) (c : Put (bytes_of o) 2 o₂ r₃ o₃) where
+-- "0 "
+pub zero_put : (out ys : List ℕ) → ys ≡ 48 ∷ 32 ∷ [] → Put (48 ∷ 32 ∷ []) 0 out 2 (ys ++ drop 2 out)
+unfolding put_at
+zero_put out ys e = rw e (record { place = refl; bytes = refl })
+
+module _ {out o₂ o₃ : List ℕ} {r₃ : ℕ} (o : Outcome (List ℕ)) (a : Put (48 ∷ 32 ∷ []) 0 out 2 o₂) (c : Put (bytes_of o) 2 o₂ r₃ o₃) where
   front : Put (48 ∷ 32 ∷ bytes_of o) 0 out r₃ o₃
-  front = let two : r₂ ≡ 2 = omega (arith, a.place, b.place) in put_then (put_then a b) (rw two c)
+  front = put_then a c
 
   pub record_refused : {n r₄ : ℕ} {o₄ : List ℕ} → n ≡ number o → 0 < n → Put (refusal_line n 0) 0 o₃ r₄ o₄ → Put (written_line o) 0 out r₄ o₄
   unfolding written_line
@@ -96,13 +101,3 @@ module _ {out o₁ o₂ o₃ : List ℕ} {r₁ r₂ r₃ : ℕ} (o : Outcome (Li
   pub record_written : {n r₄ : ℕ} {o₄ : List ℕ} → n ≡ number o → n ≤ 0 → Put (10 ∷ []) r₃ o₃ r₄ o₄ → Put (written_line o) 0 out r₄ o₄
   unfolding written_line
   record_written e h d = let g : number o ≤ 0 = omega arith in rw (le-ltb 0 (number o) g) (put_then front d)
-
--- ---- the answer to what was built
-module _ {built : Built} {out result : List ℕ} {n : ℕ} where
-  pub answer_record : {r : ExtendedDateTime} → built ≡ done.Record r → Put (written_line (written r 41)) 0 out n result → Put (line_answer (built_of built)) 0 out n result
-  unfolding line_answer
-  answer_record e p = rw e p
-
-  pub answer_refusal : {k at : ℕ} → built ≡ done.Refused k at → Put (refusal_line k at) 0 out n result → Put (line_answer (built_of built)) 0 out n result
-  unfolding line_answer
-  answer_refusal e p = rw e p

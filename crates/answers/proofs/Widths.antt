@@ -4,10 +4,7 @@ use Prim.Native.Nat.{ℕ, zero, suc, ◌+◌, ◌*◌, ◌/◌, ◌<◌, ◌≤�
 use native.Mathlib.Nat.{pow-suc}
 use mathlib.Core.Path.{◌≡◌}
 use Rattle.writer.specs.Writer.{width}
-use Rattle.writer.proofs.Digits.{width_some, width_most, width_more, width_enough}
-
-pub width_one : (n : ℕ) → n < 10 → width n ≡ 1
-width_one n h = omega (arith, width_some n, width_most n 1 (omega arith) h)
+use Rattle.writer.proofs.Digits.{width_most, width_more, width_enough}
 
 less : (n k : ℕ) → 1 < k → n < 10 ^ k → width (n / 10) + 1 ≤ k
 less n zero h g = absurd (omega arith)
@@ -24,7 +21,3 @@ width_step n h =
     let l = less n (width n) (width_more n 1 h) (width_enough n) in
     let m = most n (width (n / 10)) (width_enough (n / 10)) in
     omega arith
-
--- a u64 has no more than 20
-pub width_u64 : (n : ℕ) → n < 18446744073709551616 → width n ≤ 20
-width_u64 n h = width_most n 20 (omega arith) (omega arith)

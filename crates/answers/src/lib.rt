@@ -5,12 +5,11 @@
 
 ghost use Rattle.std.specs.Prelude.{◌≡◌, [], ◌∷◌, ◌+◌, ◌≤◌, ◌<◌, length};
 ghost use Rattle.extended.specs.Outcome.{number};
-ghost use Rattle.builder.specs.Building.{built_of};
+ghost use Rattle.extended.specs.Refusals.{placed_of};
 ghost use Rattle.writer.specs.Writer.{width, digits, written, bytes_of};
 ghost use Rattle.answers.specs.Answers.{refusal_line, written_line, line_answer, Put};
 
-use builder::Built;
-use extended::ExtendedDateTime;
+use extended::{ExtendedDateTime, PlacedRefusal};
 use writer::Written;
 
 // An answer has no more bytes: number 0, a blank, a text of 41 bytes and byte 10.
@@ -19,10 +18,10 @@ pub const LONGEST_ANSWER: usize = 44;
 const NEWLINE: u8 = 10;
 
 // An answer at the front of the lent place; nothing where the place may be too short for one.
-pub fn put_first(built: Built, out: &mut [u8]) -> usize
+pub fn put_first(built: Result<ExtendedDateTime, PlacedRefusal>, out: &mut [u8]) -> usize
     ensures upper_bound { (result ≤ 44) × (result ≤ length out.new) }
     ensures value { length out.old < 44 → (result ≡ 0) × (out.new ≡ out.old) }
-    ensures put { 44 ≤ length out.old → Put (line_answer (built_of built)) 0 out.old result out.new }
+    ensures put { 44 ≤ length out.old → Put (line_answer (placed_of built)) 0 out.old result out.new }
 {
     if out.len() < LONGEST_ANSWER {
         return 0;
@@ -31,14 +30,15 @@ pub fn put_first(built: Built, out: &mut [u8]) -> usize
 }
 
 // An answer at the front of the lent place.
-fn put_answer(built: Built, out: &mut [u8]) -> usize
+#[tactic(auto, unfolding(crate::specs::Answers::line_answer))]
+fn put_answer(built: Result<ExtendedDateTime, PlacedRefusal>, out: &mut [u8]) -> usize
     requires { 44 ≤ length out.old }
     ensures upper_bound { result ≤ 44 }
-    ensures put { Put (line_answer (built_of built)) 0 out.old result out.new }
+    ensures put { Put (line_answer (placed_of built)) 0 out.old result out.new }
 {
     match built {
-        Built::Record(record) => return put_record(record, out),
-        Built::Refused(number, place) => return put_refusal(number, place, out),
+        Ok(record) => put_record(record, out),
+        Err(broken) => put_refusal(u32::from(broken.refusal), broken.place, out),
     }
 }
 
@@ -48,8 +48,7 @@ fn put_record(record: ExtendedDateTime, out: &mut [u8]) -> usize
     ensures upper_bound { result ≤ 44 }
     ensures put { Put (written_line (written «record» 41)) 0 out.old result out.new }
 {
-    let at = put_byte(b'0', out, 0);
-    put_byte(b' ', out, at);
+    out[..2].copy_from_slice(b"0 ");
     let written = put_text(record, out);
     if written.number > 0 {
         return put_refusal(written.number, 0, out);
@@ -72,7 +71,7 @@ fn put_refusal(number: u32, place: usize, out: &mut [u8]) -> usize
     ensures upper_bound { result ≤ 44 }
     ensures put { Put (refusal_line number place) 0 out.old result out.new }
 {
-    let at = put_decimal(number as u64, out, 0);
+    let at = put_decimal(u64::from(number), out, 0);
     let at = put_byte(b' ', out, at);
     let at = put_decimal(place as u64, out, at);
     put_byte(NEWLINE, out, at)
@@ -93,26 +92,7 @@ fn put_decimal(number: u64, out: &mut [u8], at: usize) -> usize
     ensures upper_bound { result ≤ at + 20 }
     ensures put { Put (digits number) at out.old result out.new }
 {
-    let count = decimal_width(number);
-    let mut i = count;
-    let mut left = number;
-    while 0 < i {
-        i -= 1;
-        out[at + i] = 48 + (left % 10) as u8;
-        left /= 10;
-    }
-    at + count
-}
-
-// How many digits a number has.
-fn decimal_width(number: u64) -> usize
-    ensures { (result ≡ width number) × (result ≤ 20) }
-{
-    let mut count = 1;
-    let mut left = number;
-    while 10 <= left {
-        left /= 10;
-        count += 1;
-    }
-    count
+    let end = at + writer::decimal_width(number);
+    writer::fill_digits(&mut out[at..end], number);
+    end
 }

@@ -2,7 +2,7 @@
 
 #![tactic(auto)]
 
-ghost use Rattle.std.specs.Prelude.{◌≡◌, false, ◌+◌, ◌-◌, ◌≤◌, length, drop};
+ghost use Rattle.std.specs.Prelude.{◌≡◌, ◌+◌, ◌-◌, ◌≤◌, length, drop};
 ghost use Rattle.line_ends.specs.Put.{Put};
 ghost use Rattle.line_ends.specs.Lines.{line_length, kept};
 
@@ -11,17 +11,15 @@ const LONGEST_LINE: usize = 4097;
 
 const NEWLINE: u8 = 10;
 
-// How many bytes are tested at once for the end of a line.
-const BLOCK: usize = 16;
-
 // Where the first line ends: at a byte 10, or with the bytes.
+#[tactic(auto, using(crate::proofs::Splitting::line_found))]
 pub fn first_line_end(bytes: &[u8]) -> usize
     ensures { (result ≡ line_length bytes.now) × (result ≤ length bytes.now) }
 {
-    line_end(bytes, 0)
+    memchr::memchr(NEWLINE, bytes).unwrap_or(bytes.len())
 }
 
-// Where the line that begins at `from` ends: at a byte 10, or with the bytes. Goes by blocks of 16 bytes to the one that ends it.
+// Where the line that begins at `from` ends: at a byte 10, or with the bytes.
 #[tactic(auto, using(crate::proofs::Splitting::outside))]
 pub fn line_end(bytes: &[u8], from: usize) -> usize
     ensures { (result ≡ from + line_length (drop from bytes.now)) × (from ≤ result) × (result ≤ from + (length bytes.now - from)) }
@@ -29,63 +27,17 @@ pub fn line_end(bytes: &[u8], from: usize) -> usize
     if bytes.len() < from {
         return from;
     }
-    let mut i = from;
-    while BLOCK <= bytes.len() - i {
-        if ends_within(bytes, i) {
-            return line_end_near(bytes, i);
-        }
-        i += BLOCK;
-    }
-    line_end_near(bytes, i)
-}
-
-// Whether a byte 10 is among the 16 bytes from a place on. Looks at each of them, so that the compiler tests them all at once.
-fn ends_within(bytes: &[u8], at: usize) -> bool
-    requires { at + 16 ≤ length bytes.now }
-    ensures { result ≡ false → line_length (drop at bytes.now) ≡ 16 + line_length (drop (at + 16) bytes.now) }
-{
-    let mut found = false;
-    let mut j = 0;
-    while j < BLOCK {
-        if bytes[at + j] == NEWLINE {
-            found = true;
-        }
-        j += 1;
-    }
-    found
-}
-
-// Where the line that begins at `from` ends, sought byte by byte.
-#[tactic(auto, using(crate::proofs::Splitting::sought_here, crate::proofs::Splitting::sought_more, crate::proofs::Splitting::sought_none))]
-fn line_end_near(bytes: &[u8], from: usize) -> usize
-    requires { from ≤ length bytes.now }
-    ensures { (result ≡ from + line_length (drop from bytes.now)) × (from ≤ result) × (result ≤ length bytes.now) }
-{
-    let mut i = from;
-    while i < bytes.len() {
-        if bytes[i] == NEWLINE {
-            return i;
-        }
-        i += 1;
-    }
-    i
+    from + first_line_end(&bytes[from..])
 }
 
 // Moves a line that has not ended to the front, no more of it than decides its answer, and answers how much that is.
 pub fn keep(buffer: &mut [u8], from: usize, end: usize) -> usize
     ensures { Put (kept buffer.old from end) 0 buffer.old result buffer.new }
 {
-    if end < from {
+    let Some(line) = buffer.get(from..end) else {
         return 0;
-    }
-    if buffer.len() < end {
-        return 0;
-    }
-    let n = primitive::min(end - from, LONGEST_LINE);
-    let mut i = 0;
-    while i < n {
-        buffer[i] = buffer[from + i];
-        i += 1;
-    }
+    };
+    let n = line.len().min(LONGEST_LINE);
+    buffer.copy_within(from..from + n, 0);
     n
 }

@@ -1,4 +1,10 @@
 -- Whatever is built is accepted: number 0 is given to accepted records alone, for every base and every list of items. Assumes nothing.
+use Rattle.std.specs.Prelude.{Option, Some, None}
+use Rattle.items.specs.declared.Item.{Item}
+use Rattle.dates.specs.declared.date.Date.{Date}
+use Rattle.items.specs.declared.Weekday.{Weekday}
+use Rattle.times.specs.declared.time.Time.{Time}
+use Rattle.rules.specs.declared.Zone.{Zone}
 use Prim.Native.Nat.{ℕ, ◌+◌, ◌-◌, ◌*◌, ◌/◌, ◌%◌, min}
 use mathlib.Core.Path.{◌≡◌, refl, sym, ap}
 use mathlib.Core.Bool.{Bool, true, false, cond}
@@ -15,21 +21,12 @@ use Rattle.extended.proofs.Theorems.{from_unix_seconds_exact}
 use Rattle.primitive.specs.Answer.{if}
 use Rattle.relative.specs.declared.Relative.{Relative}
 use Rattle.relative.specs.declared.Relative.TheVariants as relative
-use Rattle.items.specs.declared.Slot.{Slot}
 use Rattle.extended.specs.Placed as placed
 use Rattle.extended.specs.Placed.{Placed, fine, refusal}
 use Rattle.rules.specs.Rules.{empty, need_midnight, gather, relatives}
 use Rattle.builder.specs.Building.{start, on_date, on_offset, on_time, delta, forwarded, on_weekday, add_relative, add_relatives, with_zone, on_zone, absolute, none, build_extended, built, build}
-use Rattle.rules.specs.declared.GivenDate.{GivenDate}
-use Rattle.rules.specs.declared.GivenDate.TheVariants as given-date
-use Rattle.rules.specs.declared.GivenTime.{GivenTime}
-use Rattle.rules.specs.declared.GivenTime.TheVariants as given-time
-use Rattle.rules.specs.declared.GivenWeekday.{GivenWeekday}
-use Rattle.rules.specs.declared.GivenWeekday.TheVariants as given-weekday
-use Rattle.rules.specs.declared.GivenZone.{GivenZone}
-use Rattle.rules.specs.declared.GivenZone.TheVariants as given-zone
+use Rattle.rules.specs.declared.Zone.TheVariants as given-zone
 use Rattle.rules.specs.declared.DateTimeBuilder.{DateTimeBuilder}
-use Rattle.rules.specs.declared.RelativePlace.{RelativePlace}
 
 -- each record that an answer gives is accepted
 abbrev pub Good : Outcome ExtendedDateTime → Type 0
@@ -142,33 +139,33 @@ start_good b bare base = by (need_midnight b bare)
     by false = accept_good base
 
 module _ (dt : ExtendedDateTime) (t : test dt ≡ accepted tt) where
-  date_good : (g : GivenDate) → Good (on_date g dt)
+  date_good : (g : Option Date) → Good (on_date g dt)
   unfolding on_date
-  date_good given-date.Absent = itself dt t
-  date_good (given-date.Given d) = with_date_good dt _ _ _
+  date_good None = itself dt t
+  date_good (Some d) = with_date_good dt _ _ _
 
-  time_good : (g : GivenTime) → Good (on_time g dt)
+  time_good : (g : Option Time) → Good (on_time g dt)
   unfolding on_time
-  time_good given-time.Absent = itself dt t
-  time_good (given-time.Given x) = then_good (on_offset x.offset dt) _ (λ next h. with_time_good next _ _ _ _)
+  time_good None = itself dt t
+  time_good (Some x) = then_good (on_offset x.offset dt) _ (λ next h. with_time_good next _ _ _ _)
 
-  weekday_good : (g : GivenWeekday) → Good (on_weekday g dt)
+  weekday_good : (g : Option Weekday) → Good (on_weekday g dt)
   unfolding on_weekday forwarded
-  weekday_good given-weekday.Absent = itself dt t
-  weekday_good (given-weekday.Given w) = then_good (weekday_monday0 dt) _ (λ today h. then_good (delta w today) _ (λ n k. days_good dt n))
+  weekday_good None = itself dt t
+  weekday_good (Some w) = then_good (weekday_monday0 dt) _ (λ today h. then_good (delta w today) _ (λ n k. days_good dt n))
 
-  zone_good : (g : GivenZone) → Good (on_zone g dt)
+  zone_good : (g : Option Zone) → Good (on_zone g dt)
   unfolding on_zone with_zone
-  zone_good given-zone.Absent = itself dt t
-  zone_good given-zone.Local = itself dt t
-  zone_good (given-zone.Offset o) = then_good (add_hours dt _) _ (λ next h. with_offset_good next _)
+  zone_good None = itself dt t
+  zone_good (Some given-zone.Local) = itself dt t
+  zone_good (Some (given-zone.Offset o)) = then_good (add_hours dt _) _ (λ next h. with_offset_good next _)
 
-relatives_good : (rs : List RelativePlace) (dt : ExtendedDateTime) → test dt ≡ accepted tt → Good (add_relatives rs dt)
+relatives_good : (rs : List Relative) (dt : ExtendedDateTime) → test dt ≡ accepted tt → Good (add_relatives rs dt)
 unfolding add_relatives
 relatives_good [] dt t = itself dt t
-relatives_good (x ∷ xs) dt t = then_good (add_relative x.relative dt) _ (λ next h. relatives_good xs next (relative_good dt x.relative next h))
+relatives_good (x ∷ xs) dt t = then_good (add_relative x dt) _ (λ next h. relatives_good xs next (relative_good dt x next h))
 
-pub built_good : (b : DateTimeBuilder) (rs : List RelativePlace) (base : ExtendedDateTime) → Good (build_extended b rs base)
+pub built_good : (b : DateTimeBuilder) (rs : List Relative) (base : ExtendedDateTime) → Good (build_extended b rs base)
 unfolding build_extended absolute
 built_good b rs base =
     then_good (start b (none rs) base >>= (λ r. on_date b.date r >>= (λ d. on_time b.time d >>= on_weekday b.weekday))) _
@@ -180,7 +177,7 @@ built_good b rs base =
         (λ d k. then_good (on_time b.time d) _ (λ m l. weekday_good m (time_good d (date_good r (start_good b (none rs) base r h) b.date d k) b.time m l) b.weekday)))
 
 -- What `build` gives is accepted, whatever the items, their digits and the base.
-pub accepted_built : (digits : List ℕ) (xs : List Slot) (base r : ExtendedDateTime) → build digits xs base ≡ fine r → test r ≡ accepted tt
+pub accepted_built : (digits : List ℕ) (xs : List Item) (base r : ExtendedDateTime) → build digits xs base ≡ fine r → test r ≡ accepted tt
 unfolding build built
 accepted_built digits xs base r e = by (gather digits 0 empty xs) e
   where

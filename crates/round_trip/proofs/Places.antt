@@ -16,7 +16,6 @@ use Rattle.primitive.proofs.Forward.{run_le}
 use Rattle.primitive.specs.Primitive.{space}
 use Rattle.items.specs.Items.{Parsed, ended, further, items_from, parse_item, parse_items}
 use Rattle.items.specs.declared.Item.{Item}
-use Rattle.items.specs.declared.Slot.{Slot}
 use Rattle.forms.proofs.ItemsForward.{parse_item_forward}
 use Rattle.extended.specs.Placed.{fine, refusal, placed, place_of, ◌>>=◌, ◌>>◌}
 use Rattle.builder.specs.Building.{build}
@@ -30,7 +29,7 @@ pub record Ends (text : List ℕ) (most : ℕ) (p : Parsed) : Type 0 where
   pub within : p.place ≤ length text
   pub few : length p.items ≤ most
 
-ends : (room : ℕ) (xs : List Slot) (text : List ℕ) (at : ℕ) → at ≤ length text → Ends text (length xs + room) (items_from room xs text at)
+ends : (room : ℕ) (xs : List Item) (text : List ℕ) (at : ℕ) → at ≤ length text → Ends text (length xs + room) (items_from room xs text at)
 unfolding items_from
 ends zero xs text at h = go (ltb (space text at) (length text)) (parse_item text at)
   where
@@ -41,11 +40,11 @@ ends zero xs text at h = go (ltb (space text at) (length text)) (parse_item text
     go false a = record { within = omega arith; few = omega arith }
 ends (suc room) xs text at h = go (λ ys n. ends room ys text n) (ltb (space text at) (length text)) (parse_item text at) refl
   where
-    go : ((ys : List Slot) (n : ℕ) → n ≤ length text → Ends text (length ys + room) (items_from room ys text n)) → (t : Bool) (a : Answer Item) → parse_item text at ≡ a →
-        Ends text (length xs + suc room) (if t (further a xs at (λ v n. items_from room (xs ++ (record { item = v } ∷ [])) text n)) (ended xs 0 0))
+    go : ((ys : List Item) (n : ℕ) → n ≤ length text → Ends text (length ys + room) (items_from room ys text n)) → (t : Bool) (a : Answer Item) → parse_item text at ≡ a →
+        Ends text (length xs + suc room) (if t (further a xs at (λ v n. items_from room (xs ++ (v ∷ [])) text n)) (ended xs 0 0))
     go f true (matched v n) e =
-        let w = f (xs ++ (record { item = v } ∷ [])) n ((parse_item_forward text at v n e).1 h) in
-        let l = length-append xs (record { item = v } ∷ []) in
+        let w = f (xs ++ (v ∷ [])) n ((parse_item_forward text at v n e).1 h) in
+        let l = length-append xs (v ∷ []) in
         record { within = w.within; few = omega (arith, w.few, l) }
     go f true none e = record { within = h; few = omega arith }
     go f true stop e = record { within = h; few = omega arith }

@@ -5,11 +5,8 @@ use mathlib.Core.Path.{◌≡◌, refl, sym, ap, ◌∙◌}
 use mathlib.Core.Bool.{Bool, true, false, cond}
 use lib.Dec.{ltb, leb}
 use lib.IntN.{ℤ, pos, ◌+ℤ◌}
+use Rattle.std.specs.Prelude.{Option, Some, None}
 use Rattle.integers.specs.Integers.{sum, natural_of}
-use Rattle.integers.specs.declared.Checked.{Checked}
-use Rattle.integers.specs.declared.Checked.TheVariants.{Fits, Overflow}
-use Rattle.integers.specs.declared.Natural.{Natural}
-use Rattle.integers.specs.declared.Natural.TheVariants.{At, Below}
 use Rattle.extended.specs.Outcome.{Outcome, accepted, refused, number, check, ◌>>=◌, ◌>>◌}
 use Rattle.extended.specs.Calendar.{civil}
 use Rattle.extended.specs.Extended.{checked, from_zero, test, test_offset, test_year, moment, clock_record, from_clock, from_unix_seconds, carried, add_seconds}
@@ -43,13 +40,13 @@ tested : (b : Bool) (k : ℕ) → 0 < k → Numbered (check b k)
 tested true k h n e = apart (sym e)
 tested false k h n e = by_number k h n e
 
-in_i64 : (c : Checked) → Numbered (checked c)
-in_i64 (Fits z) n e = apart (sym e)
-in_i64 Overflow n e = by_number 18 (omega arith) n e
+in_i64 : (c : Option ℤ) → Numbered (checked c)
+in_i64 (Some z) n e = apart (sym e)
+in_i64 None n e = by_number 18 (omega arith) n e
 
-from_0 : (c : Natural) → Numbered (from_zero c)
-from_0 (At k) n e = apart (sym e)
-from_0 Below n e = by_number 10 (omega arith) n e
+from_0 : (c : Option ℕ) → Numbered (from_zero c)
+from_0 (Some k) n e = apart (sym e)
+from_0 None n e = by_number 10 (omega arith) n e
 
 clock : (s n : ℕ) (o : ℤ) → Numbered (from_clock s n o)
 unfolding from_clock

@@ -1,4 +1,5 @@
 -- A written record's text, alone and with seconds behind it, read under any base. Assumes nothing.
+use Rattle.items.specs.declared.Item.{Item}
 use native.Mathlib.Omega.{arith}
 use borrow.Author.Tests.{le-leb, leb-true, lt-ltb}
 use native.Mathlib.Nat.{zero-add}
@@ -18,7 +19,6 @@ use Rattle.primitive.proofs.Rows.{all, halves, run_all}
 use Rattle.relative.specs.declared.Relative.TheVariants.{Seconds}
 use Rattle.items.specs.Items.{ended, parse_items}
 use Rattle.items.specs.declared.Item.TheVariants as item
-use Rattle.items.specs.declared.Slot.{Slot}
 use Rattle.forms.proofs.TwoItems.{shift_text, one_item_text, two_items_text, both_lowered}
 use Rattle.extended.specs.Placed.{fine, placed}
 use Rattle.builder.specs.Building.{build}
@@ -56,14 +56,14 @@ shift_length minus n h = simp (length-append, digits_length) (omega (arith, widt
 -- ---- reading
 
 -- a text that passes the first tests is read by its items
-passes : (l : List ℕ) (base : ExtendedDateTime) (xs : List Slot) → test base ≡ accepted tt → lowered l ≡ l → length l ≤ 4096 → all (λ b. ltb b 128) l ≡ true → parse_items l ≡ ended xs 0 0 → read_text l base ≡ build [] xs base
+passes : (l : List ℕ) (base : ExtendedDateTime) (xs : List Item) → test base ≡ accepted tt → lowered l ≡ l → length l ≤ 4096 → all (λ b. ltb b 128) l ≡ true → parse_items l ≡ ended xs 0 0 → read_text l base ≡ build [] xs base
 unfolding read_text read_lowered build_text items_of
 passes l base xs tb low short small read = rw (low, tb, le-leb (length l) 4096 short, ascii_all l small, le-leb (length l) (length l) (omega arith), read)
 
 module _ (base r : ExtendedDateTime) (tb : test base ≡ accepted tt) (tr : test r ≡ accepted tt) (whole : whole_minutes r.offset_seconds ≡ true) where
   pub read_alone : read_text (text_of r) base ≡ fine r
   read_alone =
-      passes (text_of r) base (record { item = item.DateTime (both_of r) } ∷ []) tb (text_lowered r) (omega (arith, text_long r (facts r tr))) (text_ascii r)
+      passes (text_of r) base (item.DateTime (both_of r) ∷ []) tb (text_lowered r) (omega (arith, text_long r (facts r tr))) (text_ascii r)
       (rw (text_is r, ← item_is r tr) (one_item_text (digits_of r) (sound r tr)))
       ∙ built_alone base r tb tr whole
 
@@ -76,7 +76,7 @@ module _ (base r : ExtendedDateTime) (tb : test base ≡ accepted tt) (tr : test
   pub read_moved : (minus : Bool) (n : ℕ) → n < 2 ^ 63 → read_text (text_of r ++ shift minus n) base ≡ placed 0 (add_seconds r (signed minus n) 0)
   unfolding shift
   read_moved minus n h =
-      passes (text_of r ++ shift minus n) base (record { item = item.DateTime (both_of r) } ∷ record { item = item.Relative (Seconds (signed minus n) 0) } ∷ []) tb
+      passes (text_of r ++ shift minus n) base (item.DateTime (both_of r) ∷ item.Relative (Seconds (signed minus n) 0) ∷ []) tb
       (rw (text_is r) (both_lowered (digits_of r) (sound r tr) minus (digits_number n)))
       (short minus n h)
       (small minus n)

@@ -1,4 +1,5 @@
 -- The digits of a written record are in range, and their item has the record's own fields. Assumes nothing.
+use Rattle.std.specs.Prelude.{Some}
 use native.Mathlib.Omega.{arith}
 use borrow.Author.Tests.{le-leb, ltb-false, eq-eqb, eqb-true}
 use Prim.Native.Nat.{ℕ, ◌/◌, ◌%◌, ◌<◌, ◌≤◌}
@@ -18,10 +19,8 @@ use Rattle.primitive.specs.Epoch.{nanoseconds}
 use Rattle.primitive.specs.Ordinal.{signed}
 use Rattle.dates.specs.Date.{exists}
 use Rattle.dates.specs.Year.{widened}
-use Rattle.dates.specs.declared.date.DateYear.TheVariants as year
 use Rattle.times.specs.Offset.{in_range, total_seconds}
 use Rattle.times.specs.declared.offset.Offset.{Offset}
-use Rattle.times.specs.declared.time.TimeOffset.TheVariants as zone
 use Rattle.items.specs.declared.combined.DateTime.{DateTime}
 use Rattle.items.specs.declared.Item.TheVariants as item
 use Rattle.forms.proofs.TwoItems.{Digits, Sound, moment_text, moment_item, long_year, nine_digits}
@@ -80,8 +79,8 @@ seconds_of z h = ap (signed (negative z)) (offset_parts (nat_abs z) (eqb-true (n
 
 abbrev pub both_of : ExtendedDateTime → DateTime
 both_of r = record {
-  date = record { day = r.day; month = r.month; year = year.Given r.year };
-  time = record { hour = r.hour; minute = r.minute; second = r.second; nanosecond = r.nanosecond; offset = zone.Given (offset_of r.offset_seconds) };
+  date = record { day = r.day; month = r.month; year = Some r.year };
+  time = record { hour = r.hour; minute = r.minute; second = r.second; nanosecond = r.nanosecond; offset = Some (offset_of r.offset_seconds) };
 }
 
 module _ (r : ExtendedDateTime) (t : test r ≡ accepted tt) where

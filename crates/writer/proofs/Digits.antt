@@ -157,10 +157,21 @@ year_width y h = let w = width_most y 10 (omega arith) h in (omega arith, omega 
 pub year_length : (y : ℕ) → y ≤ 2147485547 → (4 ≤ length (padded 4 y)) × (length (padded 4 y) ≤ 10)
 year_length y h = rw (padded_length 4 y) (year_width y (omega arith))
 
--- 4 digits below 10000, and one more for each further power of ten
-pub width_four : (y : ℕ) → y < 10000 → max 4 (width y) ≡ 4
-width_four y h = let w = width_most y 4 (omega arith) h in omega arith
+-- a number of at least k + 1 digits and of no more, by powers of ten; 0 has one digit, as 1 has
+pub width_by_powers : (n k : ℕ) → 10 ^ k ≤ max n 1 → max n 1 < 10 * 10 ^ k → width n ≡ k + 1
+width_by_powers n zero l h =
+    let m = width_most n 1 (omega arith) (omega arith) in
+    omega (arith, width_some n)
+width_by_powers n (suc k) l h =
+    let z : 0 ≤ k = omega arith in
+    let p : 10 ^ 0 ≤ 10 ^ k = pow-le-pow_right {n = 10} (omega arith) z in
+    let e : 10 ^ suc k ≡ 10 ^ k * 10 = pow-suc 10 k in
+    let f : 10 ^ suc (suc k) ≡ 10 ^ suc k * 10 = pow-suc 10 (suc k) in
+    let m = width_most n (suc (suc k)) (omega arith) (omega arith) in
+    let w = width_more n (suc k) (omega arith) in
+    omega arith
 
+-- one digit more for each further power of ten
 pub width_is : (k y : ℕ) → 4 ≤ k → 10 ^ k ≤ y → y < 10 ^ suc k → max 4 (width y) ≡ suc k
 width_is k y f l h =
     let m = width_most y (suc k) (omega arith) h in

@@ -1,6 +1,5 @@
 -- The laws and theorems of the crate `writer`.
 pub mod Digits
-pub mod Signs
 pub mod Filling
 pub mod Texts
 pub mod Writing

@@ -1,6 +1,6 @@
 -- The text of a record: its parts, its length, its bytes, and what its offset tells. Assumes nothing.
 use Prim.Native.Nat.{ℕ, ◌+◌, ◌*◌, ◌/◌, ◌%◌, ◌<◌, ◌≤◌, max}
-use mathlib.Core.Path.{◌≡◌, refl, ◌∙◌}
+use mathlib.Core.Path.{◌≡◌, refl}
 use mathlib.Core.Bool.{Bool, true, false, ◌&&◌}
 use mathlib.Core.List.{List, [], ◌∷◌, ◌++◌, append_assoc}
 use native.Mathlib.Omega.{arith}
@@ -16,19 +16,13 @@ use Rattle.extended.proofs.Outcomes.{check_true}
 use Rattle.extended.proofs.Records.{Accepted}
 use Rattle.primitive.specs.Text.{lower, lowered, digit}
 use Rattle.primitive.proofs.Rows.{all, halves}
-use Rattle.writer.specs.Writer.{fixed, width, padded, sign_of, date_part, time_part, offset_part, text_of, shown, Longer}
-use Rattle.writer.specs.declared.Text.{Text}
+use Rattle.writer.specs.Writer.{fixed, width, padded, negative, sign_of, field, text_of}
 use Rattle.writer.proofs.Digits.{all_join, all_also, fixed_digits, fixed_length, padded_digits, padded_length, year_width}
 
--- the three parts, one behind the other
-pub parts : (r : ExtendedDateTime) (d t o : Text) → shown d ≡ date_part r [] → Longer d (time_part r []) 19 t → Longer t (offset_part r.offset_seconds []) 6 o → shown o ≡ text_of r
+-- the year and the fields, put one behind the other
+pub fields_joined : (r : ExtendedDateTime) → (((((((padded 4 r.year ++ field 45 2 r.month []) ++ field 45 2 r.day []) ++ field 32 2 r.hour []) ++ field 58 2 r.minute []) ++ field 58 2 r.second []) ++ field 46 9 r.nanosecond []) ++ field (sign_of (negative r.offset_seconds)) 2 (nat_abs r.offset_seconds / 3600) []) ++ field 58 2 (nat_abs r.offset_seconds % 3600 / 60) [] ≡ text_of r
 unfolding text_of
-parts r d t o e f g = g.text ∙ rw (f.text, e) (simp append_assoc)
-
--- the text, and what stands behind it
-pub text_then : (r : ExtendedDateTime) (rest : List ℕ) → text_of r ++ rest ≡ date_part r (time_part r (offset_part r.offset_seconds rest))
-unfolding text_of
-text_then r rest = simp append_assoc
+fields_joined r = simp append_assoc
 
 -- ---- the length
 pub text_length : (r : ExtendedDateTime) → length (text_of r) ≡ max 4 (width r.year) + 31

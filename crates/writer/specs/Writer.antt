@@ -1,9 +1,8 @@
 -- The text of a record, and what writing it answers: document 01, 'Packet and text' and 'The counted calendar'.
-use Rattle.std.specs.Prelude.{ℕ, zero, suc, ◌+◌, ◌/◌, ◌%◌, max, ◌≡◌, Bool, true, false, cond, List, [], ◌∷◌, ◌++◌, eqb, ltb, leb, ℤ, pos, negsuc, nat_abs, length, take, drop}
+use Rattle.std.specs.Prelude.{ℕ, zero, suc, ◌+◌, ◌/◌, ◌%◌, max, Bool, true, false, cond, List, [], ◌∷◌, ◌++◌, eqb, ltb, leb, ℤ, pos, negsuc, nat_abs, length, drop}
 use Rattle.extended.specs.Outcome.{Outcome, accepted, number, value_or, check, ◌>>◌}
 use Rattle.extended.specs.Extended.{test}
 use Rattle.extended.specs.declared.ExtendedDateTime.{ExtendedDateTime}
-use Rattle.writer.specs.declared.Text.{Text}
 use Rattle.writer.specs.declared.Written.{Written}
 
 -- ---- digits
@@ -84,14 +83,3 @@ written_answer o = record { number = number o; length = length (bytes_of o) }
 -- "Bytes behind the text stay."
 abbrev pub over : List ℕ → List ℕ → List ℕ
 over text out = text ++ drop (length text) out
-
--- ---- the text on its way
-
--- the bytes of a text that is being built
-unfoldable pub shown : Text → List ℕ
-shown t = take t.length t.bytes
-
--- r is t with n bytes more behind it
-pub record Longer (t : Text) (more : List ℕ) (n : ℕ) (r : Text) : Type 0 where
-  pub text : shown r ≡ shown t ++ more
-  pub length : r.length ≡ t.length + n

@@ -1,7 +1,8 @@
 -- `answers::put_refusal` meets its contract: its four steps are one. Assumes nothing.
-use borrow.Author.Rules.{rules}
 use Rattle.answers.proofs.Putting.{refusal_put}
 use Rattle.answers.proofs.put_refusal.Goals as goal
 
 pub returns-clause-put : goal.returns-clause-put
-returns-clause-put c = search (refusal_put, rules)
+returns-clause-put c =
+    let first = rw c.from.ensures at c.put_decimal-at.ensures.put in
+    refusal_put c.args.number c.args.place first c.put_byte-at.ensures c.put_decimal-at-2.ensures.put c.put_byte.ensures

@@ -1,21 +1,16 @@
--- `line_ends::keep` meets its contract: at each turn the bytes in front of i are moved, and those from i on are as they were. Assumes
--- nothing.
+-- `line_ends::keep` meets its contract: there are no such places, or the bytes from there on are copied. Assumes nothing.
 use native.Mathlib.Omega.{arith}
-use borrow.Author.Rules.{rules}
-use Rattle.line_ends.proofs.Keeping.{moving_on, moved, kept_behind, kept_outside}
+use Prim.Native.Nat.{◌-◌, min}
+use mathlib.Core.Path.{◌≡◌}
+use Rattle.line_ends.proofs.Keeping.{kept_none, kept_some}
 use Rattle.line_ends.proofs.keep.Goals as goal
 
-pub returns-then-end-from : goal.returns-then-end-from
-returns-then-end-from c = search (kept_behind, rules)
-
-pub returns-then-buffer-end : goal.returns-then-buffer-end
-returns-then-buffer-end c = search (kept_outside, rules)
-
-pub loop-i-preserved : goal.loop-i-preserved
-loop-i-preserved c = moving_on c.loop-i.invariant (omega (arith, c.min-n.ensures)) (search rules)
+pub returns-in_default : goal.returns-in_default
+returns-in_default c = kept_none c.args.buffer.now c.args.from c.args.end c.in_default.ensures.lookup.0
 
 pub returns : goal.returns
 returns c =
     let a = c.args in
-    let e = c.min-n.ensures in
-    moved c.loop-i.invariant (omega (arith, e)) a.end (search rules) (search rules) e c.loop-i-test.false
+    let l = c.in-Some.ensures.lookup.0 in
+    let e : c.min-n.result ≡ min (a.end - a.from) 4097 = omega (arith, c.min-n.ensures, l.3) in
+    rw c.copy_within.ensures.after (kept_some a.buffer.now a.from a.end c.min-n.result l.0 l.1 e)

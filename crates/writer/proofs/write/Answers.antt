@@ -1,81 +1,51 @@
 -- `writer::write` meets its contract: the tests in their order, then the copy. Assumes nothing.
-use Prim.Native.Nat.{ℕ, ◌<◌, ◌≤◌}
-use mathlib.Core.Path.{◌≡◌, ap}
-use mathlib.Core.Bool.{true}
-use native.Mathlib.Omega.{arith}
+use mathlib.Core.Path.{◌≡◌, ◌∙◌, sym}
 use lib.IntN.{nat_abs}
 use lib.ListN.{length}
 use mir.Syntax.{w32}
 use mir.Val.{SFits}
 use mir.Facts.{to_z-of_z}
 use borrow.Author.Rules.{rules}
-use Rattle.extended.proofs.Outcomes.{passed, refused_by}
-use Rattle.extended.proofs.Records.{record_proper}
 use Rattle.extended.specs.Extended.{test}
 use Rattle.extended.specs.Outcome.{accepted}
-use Rattle.writer.proofs.Texts.{text_most}
 use Rattle.writer.proofs.Writing.{uneven, even, not_accepted, not_whole, no_room, some_room}
-use Rattle.writer.specs.Writer.{text_of, whole_minutes, written}
-use Rattle.writer.specs.declared.Written.{Written}
+use Rattle.writer.specs.Writer.{text_of}
 use Rattle.writer.proofs.write.Goals as goal
+use Rattle.writer.proofs.write.Goals.{After-unsigned_abs-offset, After-as_bytes-bytes}
 
-abbrev answered : ℕ → Written
-answered n = record { number = 0; length = n }
-
-pub returns-then-is_refused : goal.returns-then-is_refused
-returns-then-is_refused c =
-    let r = c.args.«record» in
-    let w = not_accepted r (length c.args.out.now) (refused_by (test r) c.refusal-refusal.ensures c.if-is_refused.true) in
+pub returns-in-Err : goal.returns-in-Err
+returns-in-Err c =
+    let w = not_accepted c.args.«record» (length c.args.out.now) (sym c.in-Err.ensures) in
     record { value = rw w c.refused.ensures; out_after = rw w }
+
+-- what the answers behind the first test share
+tested : (c : After-unsigned_abs-offset) → test c.args.«record» ≡ accepted tt
+tested c = sym c.in_default.ensures
+
+size_is : (c : After-unsigned_abs-offset) → c.unsigned_abs-offset.result ≡ nat_abs c.args.«record».offset_seconds
+size_is c =
+    let offset_fits : SFits w32 c.args.«record».offset_seconds = search rules in
+    rw (to_z-of_z offset_fits) at c.unsigned_abs-offset.ensures.value
 
 pub returns-then-offset-gt0 : goal.returns-then-offset-gt0
 returns-then-offset-gt0 c =
-    let tested : test c.args.«record» ≡ accepted tt = passed (record_proper c.args.«record») c.refusal-refusal.ensures c.if-is_refused.false in
-    let offset_fits : SFits w32 c.args.«record».offset_seconds = search rules in
-    let size_is : c.magnitude-offset.result ≡ nat_abs c.args.«record».offset_seconds = rw (to_z-of_z offset_fits) at c.magnitude-offset.ensures in
-    let r = c.args.«record» in
-    let m = c in
-    let w = not_whole r (length c.args.out.now) tested (uneven m.magnitude-offset.result _ size_is c.if-offset-gt0.true) in
+    let o = (goal.at.returns-then-offset-gt0 c).After-unsigned_abs-offset in
+    let w = not_whole c.args.«record» (length c.args.out.now) (tested o) (uneven c.unsigned_abs-offset.result _ (size_is o) c.if-offset-gt0.true) in
     record { value = rw w c.refused-then-offset-gt0.ensures; out_after = rw w }
+
+text_is : (c : After-as_bytes-bytes) → c.as_bytes-bytes.result.now ≡ text_of c.args.«record»
+text_is c = c.as_bytes-bytes.ensures ∙ c.text_of-text.ensures
 
 pub returns-then-n-out : goal.returns-then-n-out
 returns-then-n-out c =
-    let tested : test c.args.«record» ≡ accepted tt = passed (record_proper c.args.«record») c.refusal-refusal.ensures c.if-is_refused.false in
-    let offset_fits : SFits w32 c.args.«record».offset_seconds = search rules in
-    let size_is : c.magnitude-offset.result ≡ nat_abs c.args.«record».offset_seconds = rw (to_z-of_z offset_fits) at c.magnitude-offset.ensures in
-    let whole : whole_minutes c.args.«record».offset_seconds ≡ true = even c.magnitude-offset.result _ size_is c.if-offset-gt0.false in
-    let length_is : c.text_of-text.result.length ≡ length (text_of c.args.«record») = c.text_of-text.ensures.1 in
-    let r = c.args.«record» in
-    let w = no_room r (length c.args.out.now) tested whole (omega (arith, length_is, c.if-n-out.true)) in
+    let o = (goal.at.returns-then-n-out c).After-unsigned_abs-offset in
+    let t = text_is (goal.at.returns-then-n-out c).After-as_bytes-bytes in
+    let w = no_room c.args.«record» (length c.args.out.now) (tested o) (even c.unsigned_abs-offset.result _ (size_is o) c.if-offset-gt0.false) (rw t at c.if-n-out.true) in
     record { value = rw w c.refused-then-n-out.ensures; out_after = rw w }
-
-pub copy_out-requires : goal.copy_out-requires
-copy_out-requires c =
-    let length_is : c.text_of-text.result.length ≡ length (text_of c.args.«record») = c.text_of-text.ensures.1 in
-    let length_most : c.text_of-text.result.length ≤ 41 =
-    let r = c.args.«record» in
-    let h : r.year < 4294967296 = search rules in
-    omega (arith, length_is, text_most r (omega arith)) in
-    (length_most, c.if-n-out.false)
-
-pub overflow_cast-result : goal.overflow_cast-result
-overflow_cast-result c =
-    let length_is : c.text_of-text.result.length ≡ length (text_of c.args.«record») = c.text_of-text.ensures.1 in
-    let length_most : c.text_of-text.result.length ≤ 41 =
-    let r = c.args.«record» in
-    let h : r.year < 4294967296 = search rules in
-    omega (arith, length_is, text_most r (omega arith)) in
-    record { fits = omega (arith, length_most) }
 
 pub returns : goal.returns
 returns c =
-    let tested : test c.args.«record» ≡ accepted tt = passed (record_proper c.args.«record») c.refusal-refusal.ensures c.if-is_refused.false in
-    let offset_fits : SFits w32 c.args.«record».offset_seconds = search rules in
-    let size_is : c.magnitude-offset.result ≡ nat_abs c.args.«record».offset_seconds = rw (to_z-of_z offset_fits) at c.magnitude-offset.ensures in
-    let whole : whole_minutes c.args.«record».offset_seconds ≡ true = even c.magnitude-offset.result _ size_is c.if-offset-gt0.false in
-    let length_is : c.text_of-text.result.length ≡ length (text_of c.args.«record») = c.text_of-text.ensures.1 in
-    let copied : written c.args.«record» (length c.args.out.now) ≡ accepted (text_of c.args.«record») =
-    some_room c.args.«record» (length c.args.out.now) tested whole (omega (arith, length_is, c.if-n-out.false)) in
-    let w = copied in
-    let t = c.text_of-text in
-    record { value = rw w (ap (λ (n : ℕ). answered n) t.ensures.1); out_after = rw w (rw t.ensures.0 at c.copy_out.ensures) }
+    let o = (goal.at.returns c).After-unsigned_abs-offset in
+    let t = text_is (goal.at.returns c).After-as_bytes-bytes in
+    let w = some_room c.args.«record» (length c.args.out.now) (tested o) (even c.unsigned_abs-offset.result _ (size_is o) c.if-offset-gt0.false) (rw t at c.if-n-out.false) in
+    record { value = rw (w, t); out_after = rw (w, c.copy_from_slice.ensures.after, t) }
