@@ -7,52 +7,43 @@
 #![tactic(auto)]
 
 mod answers;
-mod decimals;
-mod standing;
+mod line;
+mod shown;
 
-use standing::{Mode, Standing};
+use line::Line;
+use std::io::{Stdout, Write};
 
 // What is written for a line: a heading, or the items of a text.
-fn reply(at: Standing, text: &[u8]) {
-    let length = at.length;
-    if text.len() < length {
-        io::write_all(1, b"99");
-        return;
+fn reply(out: &mut Stdout, line: &Line) -> std::io::Result<()> {
+    match line.text() {
+        None => write!(out, "99")?,
+        Some(text) => {
+            if line.is_heading() {
+                out.write_all(text)?;
+            } else {
+                answers::write_items(out, text)?;
+            }
+        }
     }
-    let mode = at.mode;
-    if let Mode::Reason = mode {
-        answers::print_items(&text[0..length]);
-        return;
-    }
-    io::write_all(1, &text[0..length]);
+    writeln!(out)
 }
 
-fn take_byte(byte: u8, at: Standing, text: &mut [u8]) -> Standing {
-    if byte == b'\n' {
-        reply(at, text);
-        io::write_all(1, b"\n");
-        return standing::behind(0);
-    }
-    let mode = at.mode;
-    match mode {
-        Mode::Text => at.text_byte(byte, text),
-        Mode::Number => at.number_byte(byte, text),
-        Mode::Reason => at,
-    }
-}
-
-fn run(list: &mut [u8], text: &mut [u8]) {
-    let n = io::read_full(0, list);
-    let mut at = standing::behind(0);
-    let mut i = 0usize;
-    while i < n {
-        at = take_byte(list[i], at, text);
-        i += 1;
-    }
-}
-
-fn main() {
+// A write that fails ends the program.
+fn replay(out: &mut Stdout) -> std::io::Result<()> {
     let mut list = io::large_buffer();
-    let mut text = io::buffer();
-    run(&mut list, &mut text);
+    let n = io::read_full(0, &mut list);
+    let mut line = Line::new();
+    for byte in &list[..n] {
+        if *byte == b'\n' {
+            reply(out, &line)?;
+            line = Line::new();
+        } else {
+            line.take(*byte);
+        }
+    }
+    Ok(())
+}
+
+fn main(rt: HostRuntime) {
+    let _ = replay(&mut rt.stdout());
 }

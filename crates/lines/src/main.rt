@@ -8,160 +8,106 @@
 
 #![tactic(auto)]
 
-ghost use Rattle.std.specs.Prelude.{◌≤◌, length};
-
-use builder::Built;
 use extended::ExtendedDateTime;
-use std::io::{Read, Stdin};
+use std::io::{Read, Stdin, Stdout, Write};
 
-// Where the program stands between two turns.
-#[derive(Clone, Copy)]
-struct Standing {
-    base: ExtendedDateTime,
-    // Line 1 has been read.
-    begun: bool,
+#[derive(Drop)]
+struct Program {
+    stdin: Stdin,
+    stdout: Stdout,
+    input: [u8; 65536],
+    output: [u8; 65536],
+    // What line 1 gave, once it has been read.
+    base: Option<ExtendedDateTime>,
     // The bytes of the input buffer that are read and not answered.
     from: usize,
     end: usize,
     // There may be more input.
     more: bool,
-    // Nothing is left to do.
-    done: bool,
 }
 
 fn main(rt: HostRuntime) {
-    let mut stdin = rt.stdin();
-    let mut input = io::large_buffer();
-    let mut output = io::large_buffer();
-    run(&mut stdin, &mut input, &mut output);
-}
-
-// Nothing says that the input ends, so the turns are counted down from a number that no run uses up.
-fn run(stdin: &mut Stdin, input: &mut [u8], output: &mut [u8]) {
-    let base = lines_lib::epoch();
-    let mut at = Standing {
-        base,
-        begun: false,
+    let mut program = Program {
+        stdin: rt.stdin(),
+        stdout: rt.stdout(),
+        input: [0; 65536],
+        output: [0; 65536],
+        base: None,
         from: 0,
         end: 0,
         more: true,
-        done: false,
     };
-    let mut turns = u64::MAX;
-    while turns > 0 {
-        at = turn(stdin, input, output, at);
-        if at.done {
-            return;
-        }
-        turns -= 1;
-    }
+    program.run();
 }
 
-// Takes what is read, as far as it goes.
-fn turn(stdin: &mut Stdin, input: &mut [u8], output: &mut [u8], at: Standing) -> Standing {
-    let from = at.from;
-    let end = at.end;
-    if end < from {
-        return ended(at);
-    }
-    if input.len() < end {
-        return ended(at);
-    }
-    if at.begun {
-        return answer(stdin, input, output, at);
-    }
-    let line = line_ends::first_line_end(&input[from..end]);
-    if line == end - from {
-        return read_on(stdin, input, at);
-    }
-    let base = at.base;
-    let behind = from + line;
-    match quick::read_text(&input[from..behind], base) {
-        Built::Record(base) => Standing {
-            base,
-            begun: true,
-            from: behind + 1,
-            end,
-            more: at.more,
-            done: false,
-        },
-        Built::Refused(number, place) => {
-            refuse(output, Built::Refused(number, place));
-            ended(at)
+// A method that answers `None` leaves nothing to do.
+impl Program {
+    // Nothing says that the input ends, so the turns are counted up to a number that no run reaches.
+    fn run(&mut self) {
+        for _ in 0..u64::MAX {
+            if self.turn().is_none() {
+                return;
+            }
         }
     }
-}
 
-fn refuse(output: &mut [u8], built: Built) {
-    let n = answers::put_first(built, output);
-    io::write_all(1, &output[0..n]);
-}
+    // Takes what is read, as far as it goes: answers whole lines, and reads on where none is left.
+    fn turn(&mut self) -> Option<()> {
+        let held = self.input.get(self.from..self.end)?;
+        let Some(base) = self.base else {
+            return self.begin();
+        };
+        let progress = lines_lib::put_answers(held, base, &mut self.output);
+        self.stdout.write_all(&self.output[..progress.used]).ok()?;
+        self.from += progress.taken;
+        if progress.full {
+            return Some(());
+        }
+        self.read_on()
+    }
 
-fn ended(mut at: Standing) -> Standing {
-    at.done = true;
-    at
-}
+    // Reads line 1, the base, or reads on where it has not ended.
+    fn begin(&mut self) -> Option<()> {
+        let held = self.input.get(self.from..self.end)?;
+        let line = line_ends::first_line_end(held);
+        if line == held.len() {
+            return self.read_on();
+        }
+        match quick::read_text(&held[..line], lines_lib::epoch()) {
+            Ok(base) => {
+                self.base = Some(base);
+                self.from += line + 1;
+                Some(())
+            }
+            refused => {
+                let n = answers::put_first(refused, &mut self.output);
+                let _ = self.stdout.write_all(&self.output[..n]);
+                None
+            }
+        }
+    }
 
-// Answers whole lines, and reads on where none is left.
-fn answer(stdin: &mut Stdin, input: &mut [u8], output: &mut [u8], mut at: Standing) -> Standing {
-    let from = at.from;
-    let end = at.end;
-    if end < from {
-        return ended(at);
-    }
-    if input.len() < end {
-        return ended(at);
-    }
-    let base = at.base;
-    let progress = lines_lib::put_answers(&input[from..end], base, output);
-    let used = progress.used;
-    if !io::write_all(1, &output[0..used]) {
-        return ended(at);
-    }
-    at.from = from + progress.taken;
-    if progress.full {
-        return at;
-    }
-    read_on(stdin, input, at)
-}
-
-// Keeps the line that has not ended, at the front, and reads behind it. The end of the input ends the line.
-fn read_on(stdin: &mut Stdin, input: &mut [u8], mut at: Standing) -> Standing {
-    if !at.more {
-        return ended(at);
-    }
-    let have = line_ends::keep(input, at.from, at.end);
-    if input.len() <= have {
-        return ended(at);
-    }
-    let n = received(stdin, &mut input[have..]);
-    if n > 0 {
-        at.from = 0;
-        at.end = have + n;
-        return at;
-    }
-    if have == 0 {
-        return ended(at);
-    }
-    end_line(input, have);
-    at.from = 0;
-    at.end = have + 1;
-    at.more = false;
-    at
-}
-
-// How many bytes were read into a part of the buffer. A read that fails counts as the end of the input.
-fn received(stdin: &mut Stdin, part: &mut [u8]) -> usize
-    ensures { result ≤ length part.new }
-{
-    match stdin.read(part) {
-        Ok(n) => n,
-        Err(_) => 0,
-    }
-}
-
-fn end_line(input: &mut [u8], place: usize) {
-    if place < input.len() {
-        input[place] = b'\n';
+    // Keeps the line that has not ended, at the front, and reads behind it. A read that fails counts as the end of the input, which ends
+    // the line.
+    fn read_on(&mut self) -> Option<()> {
+        if !self.more {
+            return None;
+        }
+        let have = line_ends::keep(&mut self.input, self.from, self.end);
+        if self.input.len() <= have {
+            return None;
+        }
+        let n = self.stdin.read(&mut self.input[have..]).unwrap_or(0);
+        if n == 0 && have == 0 {
+            return None;
+        }
+        self.from = 0;
+        self.end = have + n;
+        if n == 0 {
+            self.input[have] = b'\n';
+            self.end += 1;
+            self.more = false;
+        }
+        Some(())
     }
 }

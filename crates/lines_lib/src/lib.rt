@@ -25,32 +25,27 @@ pub fn put_answers(chunk: &[u8], base: ExtendedDateTime, out: &mut [u8]) -> Prog
     ensures put { Put (answers base (answered chunk.now base (length out.old))) 0 out.old result.used out.new }
     ensures full_value { result.full ≡ wanting (length chunk.now - result.taken) (length out.old - result.used) }
 {
-    let mut taken = 0;
-    let mut used = 0;
-    while taken < chunk.len() {
-        if out.len() - used < answers::LONGEST_ANSWER {
-            return Progress {
-                taken,
-                used,
-                full: true,
-            };
-        }
-        let end = line_ends::line_end(chunk, taken);
-        if end == chunk.len() {
-            return Progress {
-                taken,
-                used,
-                full: false,
-            };
-        }
-        used += put_line(&chunk[taken..end], base, &mut out[used..]);
-        taken = end + 1;
-    }
-    Progress {
-        taken,
-        used,
+    let mut progress = Progress {
+        taken: 0,
+        used: 0,
         full: false,
+    };
+    // a step is as long as the line that was answered, and the line that has not ended stays
+    while progress.taken < chunk.len() {
+        if out.len() - progress.used < answers::LONGEST_ANSWER {
+            return Progress {
+                full: true,
+                ..progress
+            };
+        }
+        let end = line_ends::line_end(chunk, progress.taken);
+        if end == chunk.len() {
+            break;
+        }
+        progress.used += put_line(&chunk[progress.taken..end], base, &mut out[progress.used..]);
+        progress.taken = end + 1;
     }
+    progress
 }
 
 // The base of line 1.

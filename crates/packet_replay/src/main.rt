@@ -7,20 +7,9 @@
 // packet for 4096.
 #![tactic(auto)]
 
+use arrayvec::ArrayVec;
 use extended::ExtendedDateTime;
-
-// Where the program stands in a line.
-#[derive(Clone, Copy)]
-struct Standing {
-    // The bytes of the packet so far.
-    length: usize,
-    // The first digit of a byte, or 16 where none is read.
-    half: u8,
-    // The tab is read.
-    reason: bool,
-    // Where the line begins in the list.
-    start: usize,
-}
+use std::io::{Stdout, Write};
 
 fn base() -> ExtendedDateTime {
     ExtendedDateTime {
@@ -35,105 +24,62 @@ fn base() -> ExtendedDateTime {
     }
 }
 
-fn line_from(start: usize) -> Standing {
-    Standing {
-        length: 0,
-        half: 16,
-        reason: false,
-        start,
+// The value of a hexadecimal digit.
+fn digit(byte: u8) -> Option<u8> {
+    match byte {
+        b'0'..=b'9' => Some(byte - b'0'),
+        b'a'..=b'f' => Some(10 + (byte - b'a')),
+        _ => None,
     }
 }
 
-// The value of a hexadecimal digit, and 16 for another byte.
-fn digit(byte: u8) -> u8 {
-    if b'0' <= byte {
-        if byte <= b'9' {
-            return byte - b'0';
+// The bytes that digits are, as many as there is room for.
+fn packet_of(digits: &[u8]) -> ArrayVec<u8, 4096> {
+    let mut packet = ArrayVec::new();
+    // The first digit of a byte.
+    let mut first = None;
+    for byte in digits {
+        let Some(value) = digit(*byte) else {
+            continue;
+        };
+        match first {
+            None => first = Some(value),
+            Some(high) => {
+                if packet.try_push(high << 4 | value).is_err() {
+                    break;
+                }
+                first = None;
+            }
         }
     }
-    if b'a' <= byte {
-        if byte <= b'f' {
-            return 10 + (byte - b'a');
-        }
-    }
-    16
+    packet
 }
 
-fn take_byte(byte: u8, mut at: Standing, packet: &mut [u8]) -> Standing {
-    if byte == b'\t' {
-        at.reason = true;
-        return at;
-    }
-    if at.reason {
-        return at;
-    }
-    let value = digit(byte);
-    if value > 15 {
-        return at;
-    }
-    if at.half > 15 {
-        at.half = value;
-        return at;
-    }
-    let length = at.length;
-    if length < packet.len() {
-        packet[length] = 16 * at.half + value;
-        at.length = length + 1;
-    }
-    at.half = 16;
-    at
+// What is written for a line: a heading, or the answer to a packet.
+fn reply(out: &mut Stdout, line: &[u8]) -> std::io::Result<()> {
+    let Some(tab) = line.iter().position(|byte| *byte == b'\t') else {
+        out.write_all(line)?;
+        return out.write_all(b"\n");
+    };
+    let packet = packet_of(&line[..tab]);
+    let mut answer = [0; answers::LONGEST_ANSWER];
+    let n = answers::put_first(packet::read_packet(packet.as_slice(), base()), &mut answer);
+    out.write_all(&answer[..n])
 }
 
-// What is written for a packet.
-fn reply(packet: &[u8], output: &mut [u8]) {
-    let n = answers::put_first(packet::read_packet(packet, base()), output);
-    io::write_all(1, &output[0..n]);
-}
-
-// The end of a line.
-fn end_line(at: Standing, heading: &[u8], packet: &[u8], output: &mut [u8]) {
-    let length = at.length;
-    if !at.reason {
-        io::write_all(1, heading);
-        io::write_all(1, b"\n");
-        return;
-    }
-    if packet.len() < length {
-        return;
-    }
-    reply(&packet[0..length], output);
-}
-
-// The byte at a place of the list.
-fn step(list: &[u8], i: usize, at: Standing, packet: &mut [u8], output: &mut [u8]) -> Standing {
-    if list.len() <= i {
-        return at;
-    }
-    let byte = list[i];
-    if byte != b'\n' {
-        return take_byte(byte, at, packet);
-    }
-    let start = at.start;
-    if i < start {
-        return line_from(i + 1);
-    }
-    end_line(at, &list[start..i], packet, output);
-    line_from(i + 1)
-}
-
-fn run(list: &mut [u8], packet: &mut [u8], output: &mut [u8]) {
-    let n = io::read_full(0, list);
-    let mut at = line_from(0);
-    let mut i = 0usize;
-    while i < n {
-        at = step(list, i, at, packet, output);
-        i += 1;
-    }
-}
-
-fn main() {
+// A write that fails ends the program.
+fn replay(out: &mut Stdout) -> std::io::Result<()> {
     let mut list = io::large_buffer();
-    let mut packet = io::buffer();
-    let mut output = io::buffer();
-    run(&mut list, &mut packet, &mut output);
+    let n = io::read_full(0, &mut list);
+    for line in list[..n].split_inclusive(|byte| *byte == b'\n') {
+        // What stands behind the last byte 10 is no line.
+        if let Some(line) = line.strip_suffix(b"\n") {
+            reply(out, line)?;
+        }
+    }
+    Ok(())
+}
+
+fn main(rt: HostRuntime) {
+    let _ = replay(&mut rt.stdout());
 }

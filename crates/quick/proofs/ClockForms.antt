@@ -25,14 +25,11 @@ use Rattle.forms.proofs.Times.{iso_read, second_read, no_second, correction_give
 use Rattle.forms.proofs.TimeItems.{time_12}
 use Rattle.forms.proofs.Combined.{iso_time, no_meridiem}
 use Rattle.forms.proofs.TwoItems.{nine_digits}
-use Rattle.quick.specs.Rows.{Digits, Short, ShortAt}
+use Rattle.quick.specs.Rows.{Digits, Short}
+use Rattle.std.specs.Prelude.{Option, Some, None}
+use Rattle.times.specs.declared.offset.Offset.{Offset}
+use Rattle.times.specs.declared.time.Time.{Time}
 use Rattle.quick.specs.Clocks.{Clock, ClockAt, BehindMinutes, SecondAt, ZoneAt, HalfDay}
-use Rattle.quick.specs.declared.rows.ReadShort.{ReadShort}
-use Rattle.quick.specs.declared.rows.ReadShort.TheVariants as short
-use Rattle.quick.specs.declared.clocks.ReadClock.{ReadClock}
-use Rattle.quick.specs.declared.clocks.ReadClock.TheVariants as clock
-use Rattle.quick.specs.declared.clocks.Zone.{Zone}
-use Rattle.quick.specs.declared.clocks.Zone.TheVariants as zone
 use Rattle.quick.proofs.Places.{part, mark, head_drop}
 
 -- a byte, and a row of digits behind it
@@ -49,7 +46,7 @@ module _ (s : List ℕ) (at h m : ℕ) (long : at + 5 ≤ length s) (colon : get
   unfolding lower
   written = part (lowered s) at (at + 2) hs.forward ∙ rw (then_row s (at + 2) (at + 3) (at + 3 + 2) 58 (at + 5) m (omega arith) (omega arith) colon refl (omega arith) ms)
 
-  pub clock_read : {v ns n : ℕ} {z : Zone} → BehindMinutes (lowered s) (drop (at + 5) (lowered s)) v ns z n → Clock (lowered s) at h m v ns z n
+  pub clock_read : {v ns n : ℕ} {z : Option Offset} → BehindMinutes (lowered s) (drop (at + 5) (lowered s)) v ns z n → Clock (lowered s) at h m v ns z n
   clock_read b =
       let hour' : decimal (slice at (at + 2) (lowered s)) < 24 = rw hs.value hour in
       let minute' : decimal (slice (at + 3) (at + 3 + 2) (lowered s)) < 60 = rw ms.value minute in
@@ -64,9 +61,9 @@ module _ (s : List ℕ) (at h m : ℕ) (long : at + 5 ≤ length s) (colon : get
             (iso_time (iso_read (still (number_still _ hs.number)) hs.number ms.number hour' minute' b.ends b.seconds b.correction) b.no_meridiem);
       }
 
-  pub clock_answer : (r : ReadClock) → SecondAt (lowered s) (at + 5) h m r → ClockAt (lowered s) at r
-  clock_answer (clock.Match h' m' v ns z n) b = rw (b.0, b.1.0) (clock_read b.1.1)
-  clock_answer clock.NoMatch b = tt
+  pub clock_answer : (r : Option (Time × ℕ)) → SecondAt (lowered s) (at + 5) h m r → ClockAt (lowered s) at r
+  clock_answer (Some p) b = rw (b.0, b.1.0) (clock_read b.1.1)
+  clock_answer None b = tt
 
 -- ---- the end of the text
 
@@ -74,7 +71,7 @@ module _ (text : List ℕ) (n : ℕ) (end : n ≡ length text) where
   nothing_left : drop n text ≡ []
   nothing_left = drop_of_length-le text {i = n} (omega arith)
 
-  ends_behind : (l : List ℕ) (v : ℕ) → v < 60 → digit (head l) ≡ false → Reads optional_second l (record { sec = v; nsec = 0 }) [] → BehindMinutes text l v 0 zone.NotGiven n
+  ends_behind : (l : List ℕ) (v : ℕ) → v < 60 → digit (head l) ≡ false → Reads optional_second l (record { sec = v; nsec = 0 }) [] → BehindMinutes text l v 0 None n
   unfolding blank
   ends_behind l v small d r = record {
     second = small;
@@ -91,12 +88,12 @@ module _ (text : List ℕ) (n : ℕ) (end : n ≡ length text) where
   }
 
   -- `09:30`
-  pub minutes_end : BehindMinutes text (drop n text) 0 0 zone.NotGiven n
+  pub minutes_end : BehindMinutes text (drop n text) 0 0 None n
   unfolding digit blank
   minutes_end = rw nothing_left (ends_behind [] 0 (omega arith) refl (no_second (at_once _ (colon_else (still (plain refl)) refl))))
 
   -- `09:30:00`
-  pub seconds_end : {ds : List ℕ} → Number ds → decimal ds < 60 → BehindMinutes text (58 ∷ (ds ++ drop n text)) (decimal ds) 0 zone.NotGiven n
+  pub seconds_end : {ds : List ℕ} → Number ds → decimal ds < 60 → BehindMinutes text (58 ∷ (ds ++ drop n text)) (decimal ds) 0 None n
   unfolding digit
   seconds_end {ds} d small = rw nothing_left (ends_behind (58 ∷ (ds ++ [])) (decimal ds) small refl (second_read (number_head _ d) (seconds_read d (omega arith) refl refl refl) small))
 
@@ -105,15 +102,15 @@ module _ (s : List ℕ) (at v : ℕ) (long : at + 3 ≤ length s) (colon : get_o
   unfolding lower
   second_written = then_row s at (at + 1) (at + 1 + 2) 58 (at + 3) v refl (omega arith) colon refl (omega arith) vs
 
-  pub second_ends : at + 3 ≡ length s → BehindMinutes (lowered s) (drop at (lowered s)) v 0 zone.NotGiven (at + 3)
+  pub second_ends : at + 3 ≡ length s → BehindMinutes (lowered s) (drop at (lowered s)) v 0 None (at + 3)
   second_ends end =
       let n : at + 3 ≡ length (lowered s) = rw (length_lowered s) end in
       let k : decimal (slice (at + 1) (at + 1 + 2) (lowered s)) < 60 = rw vs.value small in
       rw (second_written, ← vs.value) (seconds_end (lowered s) (at + 3) n vs.number k)
 
-  pub second_answer : (h m : ℕ) (r : ReadClock) → ZoneAt (lowered s) (at + 3) h m v r → SecondAt (lowered s) at h m r
-  second_answer h m (clock.Match h' m' v' ns z n) b = (b.0, (b.1.0, rw second_written (b.1.1 _ vs.number vs.value small)))
-  second_answer h m clock.NoMatch b = tt
+  pub second_answer : (h m : ℕ) (r : Option (Time × ℕ)) → ZoneAt (lowered s) (at + 3) h m v r → SecondAt (lowered s) at h m r
+  second_answer h m (Some p) b = (b.0, (b.1.0, rw second_written (b.1.1 _ vs.number vs.value small)))
+  second_answer h m None b = tt
 
 -- ---- a fraction of nine digits and an offset
 
@@ -135,7 +132,7 @@ unfolding in_range
 small_range h m hour minute = rw (le-leb h 24 (omega arith), le-leb m 60 (omega arith), lt-ltb h 24 hour)
 
 -- the tests of the text's length, of its marks and of what the digits are worth
-module _ (s : List ℕ) (at ns h m : ℕ) (some : 16 ≤ length s) (room : at ≤ length s - 16) (point : get_or s at 0 ≡ 46) (fraction : ns < 1000000000 → Digits (lowered s) (at + 1) (at + 1 + 9) ns) (nanoseconds : ns ≤ 999999999) (sign : (get_or s (at + 10) 0 ≡ 43) ⊎ (get_or s (at + 10) 0 ≡ 45)) (hours : h < 100 → Digits (lowered s) (at + 11) (at + 11 + 2) h) (hour-kept : h ≤ 23) (colon : get_or s (at + 13) 0 ≡ 58) (minutes : m < 100 → Digits (lowered s) (at + 14) (at + 14 + 2) m) (minute-kept : m ≤ 59) {ds : List ℕ} {v : ℕ} (d : Number ds) (e : decimal ds ≡ v) (second : v < 60) where
+module _ (s : List ℕ) (at ns h m : ℕ) (some : 16 ≤ length s) (room : at ≤ length s - 16) (point : get_or s at 0 ≡ 46) (nanoseconds : ns < 1000000000) (fs : Digits (lowered s) (at + 1) (at + 1 + 9) ns) (sign : (get_or s (at + 10) 0 ≡ 43) ⊎ (get_or s (at + 10) 0 ≡ 45)) (hs : Digits (lowered s) (at + 11) (at + 11 + 2) h) (hour-kept : h ≤ 23) (colon : get_or s (at + 13) 0 ≡ 58) (ms : Digits (lowered s) (at + 14) (at + 14 + 2) m) (minute-kept : m ≤ 59) {ds : List ℕ} {v : ℕ} (d : Number ds) (e : decimal ds ≡ v) (second : v < 60) where
   small : ns < 1000000000
   small = omega arith
 
@@ -144,15 +141,6 @@ module _ (s : List ℕ) (at ns h m : ℕ) (some : 16 ≤ length s) (room : at �
 
   minute : m < 60
   minute = omega arith
-
-  fs : Digits (lowered s) (at + 1) (at + 1 + 9) ns
-  fs = fraction small
-
-  hs : Digits (lowered s) (at + 11) (at + 11 + 2) h
-  hs = hours (omega arith)
-
-  ms : Digits (lowered s) (at + 14) (at + 14 + 2) m
-  ms = minutes (omega arith)
 
   abbrev west : Bool
   west = eqb (get_or s (at + 10) 0) 45
@@ -168,7 +156,7 @@ module _ (s : List ℕ) (at ns h m : ℕ) (some : 16 ≤ length s) (room : at �
       then_row s at (at + 1) (at + 1 + 9) 46 (at + 10) ns refl (omega arith) point refl (omega arith) fs
       ∙ rw (then_row s (at + 10) (at + 11) (at + 11 + 2) (sign_of west) (at + 13) h (omega arith) (omega arith) is l (omega arith) hs, then_row s (at + 13) (at + 14) (at + 14 + 2) 58 (at + 16) m (omega arith) (omega arith) colon refl (omega arith) ms)
 
-  zone_read : (gap : List ℕ) {n : ℕ} → all blank gap ≡ true → n ≤ length (lowered s) → drop (at + 16) (lowered s) ≡ gap ++ drop n (lowered s) → digit (head (gap ++ drop n (lowered s))) ≡ false → Fails starts_with_meridiem (gap ++ drop n (lowered s)) → BehindMinutes (lowered s) (58 ∷ (ds ++ drop at (lowered s))) v ns (zone.Given west h m) n
+  zone_read : (gap : List ℕ) {n : ℕ} → all blank gap ≡ true → n ≤ length (lowered s) → drop (at + 16) (lowered s) ≡ gap ++ drop n (lowered s) → digit (head (gap ++ drop n (lowered s))) ≡ false → Fails starts_with_meridiem (gap ++ drop n (lowered s)) → BehindMinutes (lowered s) (58 ∷ (ds ++ drop at (lowered s))) v ns (Some (record { negative = west; hours = h; minutes = m })) n
   unfolding digit
   zone_read gap {n} b within g no_digit f =
       let nine : length (slice (at + 1) (at + 1 + 9) (lowered s)) ≡ 9 = length-slice (at + 1) (at + 1 + 9) (lowered s) fs.within ∙ (omega arith) in
@@ -190,14 +178,14 @@ module _ (s : List ℕ) (at ns h m : ℕ) (some : 16 ≤ length s) (room : at �
         no_meridiem = f;
       }
 
-  pub zone_ends : at + 16 ≡ length s → BehindMinutes (lowered s) (58 ∷ (ds ++ drop at (lowered s))) v ns (zone.Given west h m) (at + 16)
+  pub zone_ends : at + 16 ≡ length s → BehindMinutes (lowered s) (58 ∷ (ds ++ drop at (lowered s))) v ns (Some (record { negative = west; hours = h; minutes = m })) (at + 16)
   unfolding digit blank
   zone_ends end =
       let n : at + 16 ≡ length (lowered s) = rw (length_lowered s) end in
       let z = nothing_left (lowered s) (at + 16) n in
       zone_read [] refl (omega arith) refl (rw z) (rw z (no_meridiem [] [] refl refl refl refl))
 
-  pub zone_before : get_or s (at + 16) 0 ≡ 32 → at + 16 + 1 < length s → 43 ≤ get_or s (at + 16 + 1) 0 → get_or s (at + 16 + 1) 0 ≤ 57 → BehindMinutes (lowered s) (58 ∷ (ds ++ drop at (lowered s))) v ns (zone.Given west h m) (at + 16 + 1)
+  pub zone_before : get_or s (at + 16) 0 ≡ 32 → at + 16 + 1 < length s → 43 ≤ get_or s (at + 16 + 1) 0 → get_or s (at + 16 + 1) 0 ≤ 57 → BehindMinutes (lowered s) (58 ∷ (ds ++ drop at (lowered s))) v ns (Some (record { negative = west; hours = h; minutes = m })) (at + 16 + 1)
   unfolding digit blank lower
   zone_before blank' more low high =
       let n : at + 16 + 1 ≤ length (lowered s) = rw (length_lowered s) (omega arith) in
@@ -206,9 +194,6 @@ module _ (s : List ℕ) (at ns h m : ℕ) (some : 16 ≤ length s) (room : at �
       zone_read (32 ∷ []) refl n (mark s (at + 16) 32 (omega arith) blank' refl) refl (no_meridiem (32 ∷ []) (drop (at + 16 + 1) (lowered s)) refl (rw q k) (rw q a) (rw q p))
 
 -- ---- am and pm
-
-pub short_read : (text : List ℕ) (at v n : ℕ) (r : ReadShort) → ShortAt text at r → r ≡ short.Match v n → Short text at v n
-short_read text at v n r d e = rw e at d
 
 -- `a` is 97, `p` is 112 and `m` is 109
 abbrev meridiem_byte : Bool → ℕ
@@ -230,12 +215,9 @@ unfolding blank
 no_colon true = at_once _ (colon_else (blanks (32 ∷ []) refl (plain refl)) refl)
 no_colon false = at_once _ (colon_else (blanks (32 ∷ []) refl (plain refl)) refl)
 
-module _ (s : List ℕ) (at next h m : ℕ) (hs : Short (lowered s) at h next) (some_hour : 1 ≤ h) (hour : h ≤ 12) (long : length s - next ≡ 6) (colon : get_or s next 0 ≡ 58) (minutes : m < 100 → Digits (lowered s) (next + 1) (next + 1 + 2) m) (minute-kept : m ≤ 59) (gap : get_or s (next + 3) 0 ≡ 32) (last : get_or s (next + 5) 0 ≡ 109) (pm : Bool) (byte : get_or s (next + 4) 0 ≡ meridiem_byte pm) where
+module _ (s : List ℕ) (at next h m : ℕ) (hs : Short (lowered s) at h next) (some_hour : 1 ≤ h) (hour : h ≤ 12) (long : length s - next ≡ 6) (colon : get_or s next 0 ≡ 58) (minute_digits : Digits (lowered s) (next + 1) (next + 1 + 2) m) (minute-kept : m ≤ 59) (gap : get_or s (next + 3) 0 ≡ 32) (last : get_or s (next + 5) 0 ≡ 109) (pm : Bool) (byte : get_or s (next + 4) 0 ≡ meridiem_byte pm) where
   minute_small : m < 60
   minute_small = omega arith
-
-  minute_digits : Digits (lowered s) (next + 1) (next + 1 + 2) m
-  minute_digits = minutes (omega arith)
 
   half_written : drop at (lowered s) ≡ slice at next (lowered s) ++ (58 ∷ (slice (next + 1) (next + 1 + 2) (lowered s) ++ (32 ∷ (meridiem_byte pm ∷ (109 ∷ [])))))
   unfolding lower
@@ -247,7 +229,7 @@ module _ (s : List ℕ) (at next h m : ℕ) (hs : Short (lowered s) at h next) (
       ∙ rw (then_row s next (next + 1) (next + 1 + 2) 58 (next + 3) m refl (omega arith) colon refl (omega arith) minute_digits, then_byte s (next + 3) (next + 4) 32 (omega arith) gap refl (omega arith), then_byte s (next + 4) (next + 5) (meridiem_byte pm) (omega arith) byte (meridiem_byte_lem pm) (omega arith), then_byte s (next + 5) (next + 6) 109 (omega arith) last refl (omega arith), nothing_left (lowered s) (next + 6) ends)
 
   -- `9:30 am`
-  pub half_day_read : (v : ℕ) → v ≡ h % 12 + if pm 12 0 → HalfDay (lowered s) at v m 0 0 zone.NotGiven (next + 6)
+  pub half_day_read : (v : ℕ) → v ≡ h % 12 + if pm 12 0 → HalfDay (lowered s) at v m 0 0 None (next + 6)
   unfolding digit
   half_day_read v is =
       let size = length_lowered s in

@@ -23,9 +23,9 @@ use Rattle.forms.proofs.LiteralDates.{Month, month_still, no_hyphen_read, comma_
 use Rattle.forms.proofs.DateItems.{month_day_year, day_month, name_day}
 use Rattle.forms.proofs.TwoItems.{long_year}
 use Rattle.quick.specs.Rows.{Digits, Short}
+use Rattle.extended.specs.declared.DateParts.{DateParts}
+use Rattle.std.specs.Prelude.{Option, Some, None}
 use Rattle.quick.specs.Days.{day_of, Iso, EndedYear, YearAt, UsDate, Named, DayMonthDate, OtherDate}
-use Rattle.quick.specs.declared.days.ReadDay.{ReadDay}
-use Rattle.quick.specs.declared.days.ReadDay.TheVariants as day
 use Rattle.quick.proofs.Places.{part, mark, head_drop}
 
 -- what is read, where text, value and rest are said otherwise
@@ -46,21 +46,22 @@ module _ {text : List ℕ} {at y : ℕ} (r : Digits text at (at + 4) y) (small :
 
 -- ---- year-month-day
 
-pub iso_found : (s : List ℕ) {y m d : ℕ} → 10 ≤ length s → get_or s 4 0 ≡ 45 → get_or s 7 0 ≡ 45 → (y < 10000 → Digits (lowered s) 0 4 y) → y ≤ 9999 → (m < 100 → Digits (lowered s) 5 7 m) → m ≤ 99 → (d < 100 → Digits (lowered s) 8 10 d) → d ≤ 99 → Iso (lowered s) y m d 10
+pub iso_found : (s : List ℕ) {y m d : ℕ} → 10 ≤ length s → get_or s 4 0 ≡ 45 → get_or s 7 0 ≡ 45 → (y < 10000) × Digits (lowered s) 0 4 y → (m < 100) × Digits (lowered s) 5 7 m → (d < 100) × Digits (lowered s) 8 10 d → Iso (lowered s) y m d 10
 unfolding lower iso_date
-iso_found s h b c p i q j r k =
-    let year = p (omega arith) in
-    let month = q (omega arith) in
-    let date = r (omega arith) in
+iso_found s h b c p q r =
+    let year = p.1 in
+    let month = q.1 in
+    let date = r.1 in
+    let i = p.0 in
     let e : lowered s ≡ slice 0 4 (lowered s) ++ (45 ∷ (slice 5 7 (lowered s) ++ (45 ∷ (slice 8 10 (lowered s) ++ drop 10 (lowered s))))) =
     part (lowered s) 0 4 (omega arith) ∙ rw (mark s 4 45 (omega arith) b refl, part (lowered s) 5 7 (omega arith), mark s 7 45 (omega arith) c refl, part (lowered s) 8 10 (omega arith)) in
     record {
-      month_small = omega arith;
-      day_small = omega arith;
+      month_small = q.0;
+      day_small = r.0;
       ends = refl;
       within = rw (length_lowered s) (omega arith);
       begins = rw e (number_head _ year.number);
-      reads = λ there z. restated e (date_said year i month.value date.value) refl (first _ (iso1_read (here _ year.number) month.number date.number (year_there year i month.value date.value there) z));
+      reads = λ there z. restated e (date_said year (omega arith) month.value date.value) refl (first _ (iso1_read (here _ year.number) month.number date.number (year_there year (omega arith) month.value date.value there) z));
     }
 
 -- ---- the year behind month and day
@@ -70,11 +71,11 @@ no_blank_above : (b : ℕ) → 32 < b → blank b ≡ false
 unfolding blank
 no_blank_above b h = rw (ne_eqb b 32 (λ z. omega arith), le-leb 9 b (omega arith), lt-leb b 13 (omega arith))
 
-module _ (s : List ℕ) {at y : ℕ} (r : y < 10000 → Digits (lowered s) at (at + 4) y) (small : y ≤ 9999) where
+module _ (s : List ℕ) {at y : ℕ} (r : (y < 10000) × Digits (lowered s) at (at + 4) y) where
   pub year_last : at + 4 ≡ length s → EndedYear (lowered s) at y (at + 4)
   year_last e =
       let h : drop (at + 4) (lowered s) ≡ [] = rest_none s (at + 4) (omega arith) in
-      record { row = r (omega arith); small = small; ending = rw h text_ends; within = rw (length_lowered s) (omega arith) }
+      record { row = r.1; small = let z = r.0 in omega arith; ending = rw h text_ends; within = rw (length_lowered s) (omega arith) }
 
   pub year_then_blank : get_or s (at + 4) 0 ≡ 32 → at + 4 + 1 < length s → 32 < get_or s (at + 4 + 1) 0 → EndedYear (lowered s) at y (at + 4 + 1)
   unfolding lower blank
@@ -82,7 +83,7 @@ module _ (s : List ℕ) {at y : ℕ} (r : y < 10000 → Digits (lowered s) at (a
       let above = lower_above (get_or s (at + 4 + 1) 0) in
       let next : head (drop (at + 4 + 1) (lowered s)) ≡ lower (get_or s (at + 4 + 1) 0) = head_drop (lowered s) (at + 4 + 1) ∙ get_or_lowered s (at + 4 + 1) in
       let n : blank (head (drop (at + 4 + 1) (lowered s))) ≡ false = rw next (no_blank_above (lower (get_or s (at + 4 + 1) 0)) (omega arith)) in
-      record { row = r (omega arith); small = small; ending = rw (mark s (at + 4) 32 (omega arith) b refl) (blanks_end 32 [] refl n); within = rw (length_lowered s) (omega arith) }
+      record { row = r.1; small = let z = r.0 in omega arith; ending = rw (mark s (at + 4) 32 (omega arith) b refl) (blanks_end 32 [] refl n); within = rw (length_lowered s) (omega arith) }
 
 -- ---- parts of a date
 
@@ -92,14 +93,14 @@ short_within s h = rw length_lowered at h.more
 pub name_within : (s : List ℕ) {at k n : ℕ} → Named (lowered s) at k n → n < length s
 name_within s h = rw length_lowered at h.more
 
-pub day_year_found : (s : List ℕ) (m : ℕ) {at d n : ℕ} → Short (lowered s) at d n → get_or s n 0 ≡ 47 → (r : ReadDay) → YearAt (lowered s) (n + 1) m d r → UsDate (lowered s) at m r
+pub day_year_found : (s : List ℕ) (m : ℕ) {at d n : ℕ} → Short (lowered s) at d n → get_or s n 0 ≡ 47 → (r : Option (DateParts × ℕ)) → YearAt (lowered s) (n + 1) m d r → UsDate (lowered s) at m r
 unfolding lower
-day_year_found s m {n = n} h b (day.Match y m' d' to) (f, g, z) = (f, record { to = n; row = rw g h.row; small = rw g h.small; slash = mark s n 47 (short_within s h) b refl; year = z })
-day_year_found s m h b day.NoMatch z = tt
+day_year_found s m {n = n} h b (Some got) (f, g, z) = (f, record { to = n; row = rw g h.row; small = rw g h.small; slash = mark s n 47 (short_within s h) b refl; year = z })
+day_year_found s m h b None z = tt
 
-pub month_year_found : (text : List ℕ) (d : ℕ) {at k n : ℕ} → Named text at k n → (r : ReadDay) → YearAt text (n + 1) k d r → DayMonthDate text at d r
-month_year_found text d {n = n} h (day.Match y m d' to) (f, g, z) = (g, record { to = n; name = rw f h; year = z })
-month_year_found text d h day.NoMatch z = tt
+pub month_year_found : (text : List ℕ) (d : ℕ) {at k n : ℕ} → Named text at k n → (r : Option (DateParts × ℕ)) → YearAt text (n + 1) k d r → DayMonthDate text at d r
+month_year_found text d {n = n} h (Some got) (f, g, z) = (g, record { to = n; name = rw f h; year = z })
+month_year_found text d h None z = tt
 
 -- ---- month/day/year
 
@@ -109,9 +110,9 @@ unfolding digit
 ending_gap text_ends = ([], refl, refl, refl)
 ending_gap (blanks_end b bs g h) = (b ∷ bs, g, refl, blank_no_digit b (halves (blank b) (all blank bs) g).0)
 
-pub us_found : (s : List ℕ) {m p : ℕ} → Short (lowered s) 0 m p → get_or s p 0 ≡ 47 → (r : ReadDay) → UsDate (lowered s) (p + 1) m r → OtherDate (lowered s) r
+pub us_found : (s : List ℕ) {m p : ℕ} → Short (lowered s) 0 m p → get_or s p 0 ≡ 47 → (r : Option (DateParts × ℕ)) → UsDate (lowered s) (p + 1) m r → OtherDate (lowered s) r
 unfolding lower
-us_found s {p = p} h b (day.Match y m' d n) (f, z) =
+us_found s {p = p} h b (Some got) (f, z) =
     let year = z.year in
     let (gap, g, k, l) = ending_gap year.ending in
     let size = length-slice 0 p (lowered s) h.row.within in
@@ -129,7 +130,7 @@ us_found s {p = p} h b (day.Match y m' d n) (f, z) =
           restated e (ap item.Date (date_said year.row year.small (h.row.value ∙ sym f) z.row.value)) k
           (month_day_year [] refl h.row.number (omega arith) z.row.number (year_there year.row year.small (h.row.value ∙ sym f) z.row.value there) l);
     }
-us_found s h b day.NoMatch z = tt
+us_found s h b None z = tt
 
 -- ---- day month year
 
@@ -139,9 +140,9 @@ day_month_read {ys = ys} {l} d m y h =
     let g = blanks (32 ∷ []) refl (number_still l y.number) in
     day_month [] refl d refl (blanks (32 ∷ []) refl (month_still m _)) m (λ z. (refl, refl)) (with_it (no_hyphen_read g (other digit (head (ys ++ l)) 45 (number_head l y.number) refl)) g h y)
 
-pub day_month_found : (s : List ℕ) {d p : ℕ} → Short (lowered s) 0 d p → get_or s p 0 ≡ 32 → (r : ReadDay) → DayMonthDate (lowered s) (p + 1) d r → OtherDate (lowered s) r
+pub day_month_found : (s : List ℕ) {d p : ℕ} → Short (lowered s) 0 d p → get_or s p 0 ≡ 32 → (r : Option (DateParts × ℕ)) → DayMonthDate (lowered s) (p + 1) d r → OtherDate (lowered s) r
 unfolding lower
-day_month_found s {p = p} h b (day.Match y m d' n) (f, z) =
+day_month_found s {p = p} h b (Some got) (f, z) =
     let year = z.year in
     let name = z.name in
     let month = name.small in
@@ -157,7 +158,7 @@ day_month_found s {p = p} h b (day.Match y m d' n) (f, z) =
       blanks = refl;
       reads = λ there. restated e (ap item.Date (date_said year.row year.small refl g)) refl (day_month_read h.row.number name.month (year_there year.row year.small refl g there) year.ending);
     }
-day_month_found s h b day.NoMatch z = tt
+day_month_found s h b None z = tt
 
 -- ---- month day, year
 
@@ -167,9 +168,9 @@ name_day_read {ys = ys} {l} m d y h =
     let g = digit_no_blank (head (ys ++ l)) (number_head l y.number) in
     name_day [] refl m (λ z. (refl, refl)) (blanks (32 ∷ []) refl (number_still _ d)) d refl (with_it (comma_read 32 [] (still (plain refl)) refl g) (here l y.number) h y)
 
-pub name_day_found : (s : List ℕ) {k e d p : ℕ} → Named (lowered s) 0 k e → Short (lowered s) (e + 1) d p → get_or s p 0 ≡ 44 → p + 1 < length s → get_or s (p + 1) 0 ≡ 32 → (r : ReadDay) → YearAt (lowered s) (p + 1 + 1) k d r → OtherDate (lowered s) r
+pub name_day_found : (s : List ℕ) {k e d p : ℕ} → Named (lowered s) 0 k e → Short (lowered s) (e + 1) d p → get_or s p 0 ≡ 44 → p + 1 < length s → get_or s (p + 1) 0 ≡ 32 → (r : Option (DateParts × ℕ)) → YearAt (lowered s) (p + 1 + 1) k d r → OtherDate (lowered s) r
 unfolding lower
-name_day_found s {e = e} {p = p} name h b l c (day.Match y m d' n) (f, g, year) =
+name_day_found s {e = e} {p = p} name h b l c (Some got) (f, g, year) =
     let month = name.small in
     let i = h.row.value ∙ sym g in
     let t : lowered s ≡ slice 0 e (lowered s) ++ (32 ∷ (slice (e + 1) p (lowered s) ++ (44 ∷ (32 ∷ (slice (p + 1 + 1) (p + 1 + 1 + 4) (lowered s) ++ drop (p + 1 + 1 + 4) (lowered s)))))) =
@@ -184,4 +185,4 @@ name_day_found s {e = e} {p = p} name h b l c (day.Match y m d' n) (f, g, year) 
       blanks = refl;
       reads = λ there. restated t (ap item.Date (date_said year.row year.small (sym f) i)) refl (name_day_read name.month h.row.number (year_there year.row year.small (sym f) i there) year.ending);
     }
-name_day_found s name h b l c day.NoMatch z = tt
+name_day_found s name h b l c None z = tt

@@ -8,35 +8,17 @@ use mathlib.Core.List.{List, [], ◌∷◌, ◌++◌, append_assoc, append-nil}
 use mathlib.Core.Bool.{false}
 use lib.ListN.{length, get_or, take, length-append}
 use lib.Seq.{slice, length-slice, take-take}
-use borrow.Author.Tests.{le-leb, lt-leb}
 use Rattle.primitive.specs.Text.{lowered, digit}
 use Rattle.primitive.specs.Primitive.{decimal}
 use Rattle.primitive.proofs.Rows.{both}
 use Rattle.forms.proofs.Dates.{all_joined}
 use Rattle.primitive.proofs.Values.{decimal_more}
 use Rattle.primitive.proofs.Lowered.{length_lowered, get_or_lowered, digit_lower, digit_same, slice_first, slice_over}
-use Rattle.quick.specs.Rows.{DigitOf, Digits, Short}
+use Rattle.quick.specs.Rows.{DigitOf, RowAt, Digits, Short}
+use Rattle.std.specs.Prelude.{Some, None}
 use Rattle.quick.proofs.Places.{part}
 
--- ---- one byte
-
-pub a_digit : (b : ℕ) → 48 ≤ b → b ≤ 57 → DigitOf b (b - 48)
-unfolding digit
-a_digit b h k = record { most = omega arith; some = λ z. (rw (le-leb 48 b h, le-leb b 57 k), refl); none = λ z. absurd (omega arith) }
-
-pub no_digit_below : (b : ℕ) → b < 48 → DigitOf b 10
-unfolding digit
-no_digit_below b h = record { most = omega arith; some = λ z. absurd (omega arith); none = λ z. rw (lt-leb 48 b h) }
-
-pub no_digit_above : (b : ℕ) → 57 < b → DigitOf b 10
-unfolding digit
-no_digit_above b h = record { most = omega arith; some = λ z. absurd (omega arith); none = λ z. rw (le-leb 48 b (omega arith), lt-leb b 57 h) }
-
 -- ---- rows
-
--- where there is none, the answer is the limit itself
-pub no_row : {A : Type 0} (n : ℕ) → n < n → A
-no_row n h = absurd (omega arith)
 
 decimal_joined : (k l : List ℕ) → decimal (k ++ l) ≡ decimal k * 10 ^ length l + decimal l
 unfolding decimal
@@ -57,57 +39,74 @@ module _ (text : List ℕ) (a b c : ℕ) {v w : ℕ} where
         within = g.within;
       }
 
-module _ (s : List ℕ) (i : ℕ) (h : i < length s) {r : ℕ} (d : DigitOf (get_or s i 0) r) where
-  one_digit : r < 10 → Digits (lowered s) i (i + 1) r
+module _ (s : List ℕ) (i : ℕ) (h : i < length s) where
+  one_digit : {r : ℕ} → DigitOf (get_or s i 0) (Some r) → Digits (lowered s) i (i + 1) r
   unfolding decimal
-  one_digit k =
-      let t = d.some k in
-      let e : slice i (i + 1) (lowered s) ≡ get_or s i 0 ∷ [] = slice_first s i (i + 1) (omega arith) h (get_or s i 0) (digit_same (get_or s i 0) t.0) ∙ rw (slice_over s (i + 1) (i + 1) (omega arith)) in
+  one_digit d =
+      let e : slice i (i + 1) (lowered s) ≡ get_or s i 0 ∷ [] = slice_first s i (i + 1) (omega arith) h (get_or s i 0) (digit_same (get_or s i 0) d.0) ∙ rw (slice_over s (i + 1) (i + 1) (omega arith)) in
       record {
-        number = rw e (record { long = omega arith; digits = both t.0 refl });
-        value = rw (e, t.1) (omega arith);
+        number = rw e (record { long = omega arith; digits = both d.0 refl });
+        value = rw (e, d.1) (omega arith);
         forward = omega arith;
         within = rw (length_lowered s) (omega arith);
       }
 
-  no_digit : 9 < r → digit (get_or (lowered s) i 0) ≡ false
-  no_digit k = rw (get_or_lowered s i, digit_lower) (d.none k)
+  no_digit : DigitOf (get_or s i 0) None → digit (get_or (lowered s) i 0) ≡ false
+  no_digit d = rw (get_or_lowered s i, digit_lower) d
 
 -- ---- two digits, four, nine
 
-pub two_digits : (s : List ℕ) (at : ℕ) {a b : ℕ} → at + 2 ≤ length s → DigitOf (get_or s at 0) a → a ≤ 9 → DigitOf (get_or s (at + 1) 0) b → b ≤ 9 → Digits (lowered s) at (at + 2) (a * 10 + b)
-two_digits s at h d k f l = let e : at + 2 ≡ at + 1 + 1 = omega arith in joined (lowered s) at (at + 1) (at + 2) 1 e (one_digit s at (omega arith) d (omega arith)) (rw e (one_digit s (at + 1) (omega arith) f (omega arith)))
+pub two_digits : (s : List ℕ) (at : ℕ) {a b : ℕ} → at + 2 ≤ length s → DigitOf (get_or s at 0) (Some a) → DigitOf (get_or s (at + 1) 0) (Some b) → RowAt (lowered s) at 2 (Some (a * 10 + b))
+two_digits s at h d f =
+    let e : at + 2 ≡ at + 1 + 1 = omega arith in
+    let p = d.2 in
+    let q = f.2 in
+    (omega arith, joined (lowered s) at (at + 1) (at + 2) 1 e (one_digit s at (omega arith) d) (rw e (one_digit s (at + 1) (omega arith) f)))
 
 module _ (text : List ℕ) (at : ℕ) {a b : ℕ} where
-  pub four_digits : (a < 100 → Digits text at (at + 2) a) → a ≤ 99 → (b < 100 → Digits text (at + 2) (at + 2 + 2) b) → b ≤ 99 → Digits text at (at + 4) (a * 100 + b)
-  four_digits f k g l = let e : at + 4 ≡ at + 2 + 2 = omega arith in joined text at (at + 2) (at + 4) 2 e (f (omega arith)) (rw e (g (omega arith)))
+  pub four_digits : RowAt text at 2 (Some a) → RowAt text (at + 2) 2 (Some b) → RowAt text at 4 (Some (a * 100 + b))
+  four_digits f g =
+      let e : at + 4 ≡ at + 2 + 2 = omega arith in
+      let p = f.0 in
+      let q = g.0 in
+      (omega arith, joined text at (at + 2) (at + 4) 2 e f.1 (rw e g.1))
 
-  eight_digits : (a < 10000 → Digits text at (at + 4) a) → a ≤ 9999 → (b < 10000 → Digits text (at + 4) (at + 4 + 4) b) → b ≤ 9999 → Digits text at (at + 8) (a * 10000 + b)
-  eight_digits f k g l = let e : at + 8 ≡ at + 4 + 4 = omega arith in joined text at (at + 4) (at + 8) 4 e (f (omega arith)) (rw e (g (omega arith)))
+  eight_digits : RowAt text at 4 (Some a) → RowAt text (at + 4) 4 (Some b) → RowAt text at 8 (Some (a * 10000 + b))
+  eight_digits f g =
+      let e : at + 8 ≡ at + 4 + 4 = omega arith in
+      let p = f.0 in
+      let q = g.0 in
+      (omega arith, joined text at (at + 4) (at + 8) 4 e f.1 (rw e g.1))
 
-pub nine_digits : (s : List ℕ) (at : ℕ) {a b c : ℕ} → at + 9 ≤ length s → (a < 10000 → Digits (lowered s) at (at + 4) a) → a ≤ 9999 → (b < 10000 → Digits (lowered s) (at + 4) (at + 4 + 4) b) → b ≤ 9999 → DigitOf (get_or s (at + 8) 0) c → c ≤ 9
-    → Digits (lowered s) at (at + 9) ((a * 10000 + b) * 10 + c)
-nine_digits s at h f k g l d m = let e : at + 9 ≡ at + 8 + 1 = omega arith in joined (lowered s) at (at + 8) (at + 9) 1 e (eight_digits (lowered s) at f k g l) (rw e (one_digit s (at + 8) (omega arith) d (omega arith)))
+pub nine_digits : (s : List ℕ) (at : ℕ) {a b c : ℕ} → at + 9 ≤ length s → RowAt (lowered s) at 4 (Some a) → RowAt (lowered s) (at + 4) 4 (Some b) → DigitOf (get_or s (at + 8) 0) (Some c) → RowAt (lowered s) at 9 (Some ((a * 10000 + b) * 10 + c))
+nine_digits s at h f g d =
+    let e : at + 9 ≡ at + 8 + 1 = omega arith in
+    let w = eight_digits (lowered s) at f g in
+    let p = w.0 in
+    let q = d.2 in
+    (omega arith, joined (lowered s) at (at + 8) (at + 9) 1 e w.1 (rw e (one_digit s (at + 8) (omega arith) d)))
 
 -- ---- one digit or two, and no digit behind them
 
-module _ (s : List ℕ) (at : ℕ) {a b : ℕ} (most : 3 ≤ length s) (h : at ≤ length s - 3) (d : DigitOf (get_or s at 0) a) (k : a ≤ 9) (e : DigitOf (get_or s (at + 1) 0) b) where
-  pub one_alone : 9 < b → Short (lowered s) at a (at + 1)
-  one_alone l = record {
-    row = one_digit s at (omega arith) d (omega arith);
-    small = omega arith;
+module _ (s : List ℕ) (at : ℕ) {a : ℕ} (most : 3 ≤ length s) (h : at ≤ length s - 3) (d : DigitOf (get_or s at 0) (Some a)) where
+  pub one_alone : DigitOf (get_or s (at + 1) 0) None → Short (lowered s) at a (at + 1)
+  one_alone e = record {
+    row = one_digit s at (omega arith) d;
+    small = let z = d.2 in omega arith;
     near = omega arith;
     more = rw (length_lowered s) (omega arith);
-    ends = no_digit s (at + 1) (omega arith) e l;
+    ends = no_digit s (at + 1) (omega arith) e;
   }
 
-  pub two_alone : {c : ℕ} → b ≤ 9 → DigitOf (get_or s (at + 2) 0) c → 9 < c → Short (lowered s) at (a * 10 + b) (at + 2)
-  two_alone l f m = record {
-    row = two_digits s at (omega arith) d k e l;
-    small = omega arith;
-    near = omega arith;
-    more = rw (length_lowered s) (omega arith);
-    ends = no_digit s (at + 2) (omega arith) f m;
-  }
+  pub two_alone : {b : ℕ} → DigitOf (get_or s (at + 1) 0) (Some b) → DigitOf (get_or s (at + 2) 0) None → Short (lowered s) at (a * 10 + b) (at + 2)
+  two_alone e f =
+      let w = two_digits s at (omega arith) d e in
+      record {
+        row = w.1;
+        small = let z = w.0 in omega arith;
+        near = omega arith;
+        more = rw (length_lowered s) (omega arith);
+        ends = no_digit s (at + 2) (omega arith) f;
+      }
 
-pub ruleset rows = (a_digit, no_digit_below, no_digit_above, no_row, two_digits, four_digits, nine_digits, one_alone, two_alone, rules)
+pub ruleset rows = (two_digits, four_digits, nine_digits, one_alone, two_alone, rules)

@@ -1,7 +1,7 @@
 -- What the code read is a part of the text: a number is a row of digits, a word is its bytes. Assumes nothing.
 use Prim.Native.Nat.{ℕ, suc, ◌+◌, ◌<◌, ◌≤◌}
 use native.Mathlib.Omega.{arith}
-use mathlib.Core.Path.{◌≡◌, refl, sym, ap, ◌∙◌}
+use mathlib.Core.Path.{◌≡◌, refl, sym, ap}
 use mathlib.Core.Bool.{Bool, true, false}
 use mathlib.Core.List.{List, [], ◌∷◌, ◌++◌}
 use lib.Dec.{eqb, ltb, leb}
@@ -10,11 +10,7 @@ use lib.Seq.{slice, drop-drop, length-slice}
 use borrow.Author.Tests.{eqb-true, ltb-true}
 use Rattle.primitive.specs.Answer.{Answer, matched, none, stop, if, and_then}
 use Rattle.primitive.specs.Text.{digit, run, past, some, starts, tag}
-use Rattle.primitive.specs.Primitive.{decimal, parse_uint, dec_uint_str, dec_uint, place_answer, u32_answer}
-use Rattle.primitive.specs.declared.ReadPlace.{ReadPlace}
-use Rattle.primitive.specs.declared.ReadPlace.TheVariants as place
-use Rattle.primitive.specs.declared.ReadU32.{ReadU32}
-use Rattle.primitive.specs.declared.ReadU32.TheVariants as u32
+use Rattle.primitive.specs.Primitive.{decimal, parse_uint, dec_uint_str, dec_uint}
 use Rattle.primitive.proofs.Rows.{all, halves, both}
 use Rattle.primitive.proofs.Lowered.{clash}
 use Rattle.primitive.proofs.Limits.{slice_take}
@@ -65,8 +61,8 @@ number_row max text at v n h e = go (some digit text at) refl e
     go none g f = let z : ◌≡◌ {A = ℕ} 0 1 = cc in absurd (clash z)
     go stop g f = let z : ◌≡◌ {A = ℕ} 0 1 = cc in absurd (clash z)
 
-pub read_row : (text : List ℕ) (at v n : ℕ) (r : ReadU32) → at ≤ length text → u32_answer r ≡ dec_uint 4294967295 text at → r ≡ u32.Match v n → Digits text at n v
-read_row text at v n r h e f = number_row 4294967295 text at v n h (sym e ∙ ap u32_answer f)
+pub read_row : (text : List ℕ) (at v n : ℕ) → at ≤ length text → matched v n ≡ dec_uint 4294967295 text at → Digits text at n v
+read_row text at v n h e = number_row 4294967295 text at v n h (sym e)
 
 -- bytes that were read
 starts_with : (w l : List ℕ) → starts w l ≡ true → l ≡ w ++ drop (length w) l
@@ -85,5 +81,5 @@ word_written w text at n = go (starts w (drop at text)) refl
     go true e f = let z : n ≡ at + length w = cc in rw (z, ← drop-drop (length w) at text) (starts_with w (drop at text) e)
     go false e f = let z : ◌≡◌ {A = ℕ} 0 1 = cc in absurd (clash z)
 
-pub read_word : (w text : List ℕ) (at n : ℕ) (r : ReadPlace) → place_answer r ≡ tag w text at → r ≡ place.Match n → drop at text ≡ w ++ drop n text
-read_word w text at n r e f = word_written w text at n (sym e ∙ ap place_answer f)
+pub read_word : (w text : List ℕ) (at n : ℕ) → matched tt n ≡ tag w text at → drop at text ≡ w ++ drop n text
+read_word w text at n e = word_written w text at n (sym e)

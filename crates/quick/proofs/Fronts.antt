@@ -6,7 +6,8 @@ use mathlib.Core.Path.{◌≡◌, refl, ◌∙◌}
 use mathlib.Core.Bool.{Bool, true, false}
 use mathlib.Core.List.{List, [], ◌∷◌, ◌++◌}
 use lib.ListN.{length, get_or, drop, length-drop, drop_of_length-le}
-use lib.IntN.{ℤ}
+use Rattle.std.specs.Prelude.{Option}
+use Rattle.times.specs.declared.offset.Offset.{Offset}
 use Rattle.primitive.specs.Text.{lower, lowered, blank, digit}
 use Rattle.primitive.proofs.Lowered.{length_lowered, get_or_lowered}
 use Rattle.primitive.proofs.Rows.{all}
@@ -21,31 +22,19 @@ use Rattle.forms.proofs.Items.{iso_date_alone}
 use Rattle.forms.proofs.Combined.{separator_of, separator_no_digit, combined_item, no_time_behind}
 use Rattle.forms.proofs.Lists.{no_more_items, one_item}
 use Rattle.quick.proofs.Places.{byte_there}
-use Rattle.quick.specs.Days.{day_of, Iso, IsoDate, Other, OtherDate}
-use Rattle.quick.specs.Clocks.{zone_small, time_of, Clock, ClockAt, HalfDay, HalfDayAt}
-use Rattle.quick.specs.Shifts.{Shift, ShiftAt}
-use Rattle.quick.specs.Shapes.{slot, day_alone, combined, apart, Small, Shaped, ShapeOf, at_midnight, SeparatorAt}
-use Rattle.quick.specs.declared.days.ReadDay.{ReadDay}
-use Rattle.quick.specs.declared.days.ReadDay.TheVariants as day
-use Rattle.quick.specs.declared.clocks.Zone.{Zone}
-use Rattle.quick.specs.declared.clocks.Zone.TheVariants as zone
-use Rattle.quick.specs.declared.clocks.ReadClock.{ReadClock}
-use Rattle.quick.specs.declared.clocks.ReadClock.TheVariants as clock
-use Rattle.quick.specs.declared.shifts.ReadShift.{ReadShift}
-use Rattle.quick.specs.declared.shifts.ReadShift.TheVariants as shift
-use Rattle.quick.specs.declared.ReadShape.{ReadShape}
-use Rattle.quick.specs.declared.ReadShape.TheVariants as shape
-use Rattle.quick.specs.declared.shifts.TimeUnit.{TimeUnit}
+use Rattle.quick.specs.Days.{day_of, Iso, Other}
+use Rattle.quick.specs.Clocks.{time_of, Clock, HalfDay}
+use Rattle.quick.specs.Shapes.{day_alone, combined, apart, Shaped, at_midnight, SeparatorAt}
 use Rattle.quick.specs.declared.Shape.{Shape}
 
 -- ---- one item, two items
 
 module _ {text : List ℕ} (gap l : List ℕ) {v : Item} (k : Still text) (h : 0 < length text) (r : Reads parse_item text v (gap ++ l)) (b : all blank gap ≡ true) where
-  pub listed_one : l ≡ [] → parse_items text ≡ ended (slot v ∷ []) 0 0
+  pub listed_one : l ≡ [] → parse_items text ≡ ended (v ∷ []) 0 0
   unfolding parse_items blank
   listed_one e = (one_item (still k) h r (no_more_items (rw e (blanks gap b (plain refl))))).lists text 0 refl
 
-  pub listed_two : Still l → 0 < length l → {w : Item} → Reads parse_item (gap ++ l) w [] → parse_items text ≡ ended (slot v ∷ slot w ∷ []) 0 0
+  pub listed_two : Still l → 0 < length l → {w : Item} → Reads parse_item (gap ++ l) w [] → parse_items text ≡ ended (v ∷ w ∷ []) 0 0
   unfolding parse_items blank
   listed_two s g a = (one_item (still k) h r (one_item (blanks gap b s) g a (no_more_items (still (plain refl))))).lists text 0 refl
 
@@ -55,28 +44,6 @@ past_end text n h = drop_of_length-le text h
 
 left : (text : List ℕ) (n : ℕ) → n < length text → 0 < length (drop n text)
 left text n h = rw (length-drop n text) (omega arith)
-
--- what a quick reader promises where it answers a match
-pub iso_there : {text : List ℕ} (r : ReadDay) {y m d n : ℕ} → IsoDate text r → r ≡ day.Match y m d n → Iso text y m d n
-iso_there r a e = rw e at a
-
-pub other_there : {text : List ℕ} (r : ReadDay) {y m d n : ℕ} → OtherDate text r → r ≡ day.Match y m d n → Other text y m d n
-other_there r a e = rw e at a
-
-pub clock_there : {text : List ℕ} {at : ℕ} (r : ReadClock) {h i s j : ℕ} {z : Zone} {n : ℕ} → ClockAt text at r → r ≡ clock.Match h i s j z n → Clock text at h i s j z n
-clock_there r a e = rw e at a
-
-pub half_there : {text : List ℕ} {at : ℕ} (r : ReadClock) {h i s j : ℕ} {z : Zone} {n : ℕ} → HalfDayAt text at r → r ≡ clock.Match h i s j z n → HalfDay text at h i s j z n
-half_there r a e = rw e at a
-
-pub shift_there : {text : List ℕ} {at : ℕ} (r : ReadShift) {u : TimeUnit} {n : ℤ} → ShiftAt text at r → r ≡ shift.Match u n → Shift text at u n
-shift_there r a e = rw e at a
-
-pub shape_there : {text : List ℕ} (r : ReadShape) {x : Shape} → ShapeOf text r → r ≡ shape.Match x → Shaped text x
-shape_there r a e = rw e at a
-
-pub small_zone : (z : Zone) {negative : Bool} {h m : ℕ} → z ≡ zone.Given negative h m → zone_small z → (h < 24) × (m < 60)
-small_zone z e a = rw e at a
 
 -- a blank or a `t` that the code saw
 pub separator_at : (s : List ℕ) (at b : ℕ) (with_t : Bool) → at < length s → b ≡ lower (get_or s at 0) → b ≡ separator_of with_t → SeparatorAt (lowered s) at
@@ -91,35 +58,30 @@ module _ {text : List ℕ} {y m d n : ℕ} (a : Iso text y m d n) where
   quiet_front : Still text
   quiet_front = digit_still a.begins
 
-  small : (k : ℕ) → Small (at_midnight y m d k)
-  small k = record { month_small = a.month_small; day_small = a.day_small; ranges = record { hour = omega arith; minute = omega arith; second = omega arith; nanosecond = omega arith; zone = tt } }
-
   alone : {l : List ℕ} → exists y m d ≡ true → drop n text ≡ l → digit (head l) ≡ false → Fails (parse_time_after_date (day_of y m d)) l → Reads parse_item text (item.Date (day_of y m d)) l
   alone {l} t e h f =
       let r = a.reads t (rw e h) in
       iso_date_alone (rw e at r) f
 
   -- with nothing behind it
-  pub iso_end : n ≡ length text → Shaped text (at_midnight y m d n)
+  pub iso_end : n ≡ length text → Shaped text (at_midnight (record { year = y; month = m; day = d }) n)
   unfolding digit blank
   iso_end e = record {
-    small = small n;
     front = λ t. record {
-      items = slot (item.Date (day_of y m d)) ∷ [];
-      fronts = day_alone refl refl refl refl refl;
+      items = (item.Date (day_of y m d)) ∷ [];
+      fronts = day_alone refl;
       whole = λ h. listed_one [] [] quiet_front long (alone t (past_end text n h) refl (no_time_behind _ [] [] refl (plain refl) refl refl)) refl refl;
       moved = λ u k s. let z = s.there in absurd (omega arith);
     };
   }
 
   -- with a blank behind it
-  pub iso_day : drop n text ≡ 32 ∷ drop (n + 1) text → n + 1 ≤ length text → Shaped text (at_midnight y m d (n + 1))
+  pub iso_day : drop n text ≡ 32 ∷ drop (n + 1) text → n + 1 ≤ length text → Shaped text (at_midnight (record { year = y; month = m; day = d }) (n + 1))
   unfolding digit blank
   iso_day e g = record {
-    small = small (n + 1);
     front = λ t. record {
-      items = slot (item.Date (day_of y m d)) ∷ [];
-      fronts = day_alone refl refl refl refl refl;
+      items = (item.Date (day_of y m d)) ∷ [];
+      fronts = day_alone refl;
       whole = λ h.
           let z = past_end text (n + 1) h in
           listed_one (32 ∷ []) (drop (n + 1) text) quiet_front long (alone t e refl (rw z (no_time_behind _ (32 ∷ []) [] refl (plain refl) refl refl))) refl z;
@@ -128,9 +90,9 @@ module _ {text : List ℕ} {y m d n : ℕ} (a : Iso text y m d n) where
   }
 
   -- with a time behind a blank or a `t`
-  module _ (p : SeparatorAt text n) {h i s j : ℕ} {z : Zone} {k : ℕ} (c : Clock text (n + 1) h i s j z k) where
+  module _ (p : SeparatorAt text n) {h i s j : ℕ} {z : Option Offset} {k : ℕ} (c : Clock text (n + 1) h i s j z k) where
     abbrev clocked : Shape
-    clocked = record { year = y; month = m; day = d; hour = h; minute = i; second = s; nanosecond = j; zone = z; next = k }
+    clocked = record { date = record { year = y; month = m; day = d }; time = time_of h i s j z; next = k }
 
     both : exists y m d ≡ true → Reads parse_item text (item.DateTime (record { date = day_of y m d; time = time_of h i s j z })) (c.gap ++ drop k text)
     both t =
@@ -140,9 +102,8 @@ module _ {text : List ℕ} {y m d n : ℕ} (a : Iso text y m d n) where
 
     pub iso_clock : Shaped text clocked
     iso_clock = record {
-      small = record { month_small = a.month_small; day_small = a.day_small; ranges = c.ranges };
       front = λ t. record {
-        items = slot (item.DateTime (record { date = day_of y m d; time = time_of h i s j z })) ∷ [];
+        items = (item.DateTime (record { date = day_of y m d; time = time_of h i s j z })) ∷ [];
         fronts = combined;
         whole = λ g. listed_one c.gap (drop k text) quiet_front long (both t) c.blanks (past_end text k g);
         moved = λ u q f. listed_two c.gap (drop k text) quiet_front long (both t) c.blanks f.still (left text k f.there) (f.reads c.gap c.blanks);
@@ -156,23 +117,21 @@ iso_inside s a f = let w = a.within in let e = length_lowered s in omega arith
 -- ---- another date
 
 module _ {text : List ℕ} {y m d n : ℕ} (a : Other text y m d n) (long : 0 < length text) where
-  pub other_day : Shaped text (at_midnight y m d n)
+  pub other_day : Shaped text (at_midnight (record { year = y; month = m; day = d }) n)
   other_day = record {
-    small = record { month_small = a.month_small; day_small = a.day_small; ranges = record { hour = omega arith; minute = omega arith; second = omega arith; nanosecond = omega arith; zone = tt } };
     front = λ t. record {
-      items = slot (item.Date (day_of y m d)) ∷ [];
-      fronts = day_alone refl refl refl refl refl;
+      items = (item.Date (day_of y m d)) ∷ [];
+      fronts = day_alone refl;
       whole = λ h. listed_one a.gap (drop n text) a.still long (a.reads t) a.blanks (past_end text n h);
       moved = λ u k s. listed_two a.gap (drop n text) a.still long (a.reads t) a.blanks s.still (left text n s.there) (s.reads a.gap a.blanks);
     };
   }
 
   -- with a time that ends the text
-  pub other_half : {h i s j : ℕ} {z : Zone} {k : ℕ} → HalfDay text n h i s j z k → Shaped text (record { year = y; month = m; day = d; hour = h; minute = i; second = s; nanosecond = j; zone = z; next = k })
+  pub other_half : {h i s j : ℕ} {z : Option Offset} {k : ℕ} → HalfDay text n h i s j z k → Shaped text (record { date = record { year = y; month = m; day = d }; time = time_of h i s j z; next = k })
   other_half {h} {i} {s} {j} {z} {k} c = record {
-    small = record { month_small = a.month_small; day_small = a.day_small; ranges = c.ranges };
     front = λ t. record {
-      items = slot (item.Date (day_of y m d)) ∷ slot (item.Time (time_of h i s j z)) ∷ [];
+      items = (item.Date (day_of y m d)) ∷ (item.Time (time_of h i s j z)) ∷ [];
       fronts = apart;
       whole = λ g. listed_two a.gap (drop n text) a.still long (a.reads t) a.blanks (digit_still c.begins) (left text n c.there) (c.reads a.gap a.blanks);
       moved = λ u q f. let e = c.ends in let w = f.there in absurd (omega arith);

@@ -9,11 +9,10 @@ use mathlib.Core.Bool.{Bool, true, false}
 use lib.ListN.{length, get_or}
 use lib.Seq.{slice, length-slice}
 use lib.Dec.{leb}
-use Rattle.primitive.specs.Answer.{matched, if}
+use Rattle.primitive.specs.Answer.{matched, if, answer_of}
+use Rattle.std.specs.Prelude.{Option, Some, None}
 use Rattle.primitive.specs.Text.{lower, lowered, bytes, letter}
-use Rattle.primitive.specs.Primitive.{alpha1, same, named, u8_answer}
-use Rattle.primitive.specs.declared.ReadU8.{ReadU8}
-use Rattle.primitive.specs.declared.ReadU8.TheVariants as u8
+use Rattle.primitive.specs.Primitive.{alpha1, same, named}
 use Rattle.primitive.proofs.Lowered.{length_lowered}
 use Rattle.primitive.proofs.Rows.{all, halves}
 use Rattle.dates.specs.Date.{months}
@@ -53,11 +52,11 @@ unfolding months
 months_small = refl
 
 pub name_found : (s : List ℕ) (at e : ℕ) → matched (slice at e (lowered s)) e ≡ alpha1 (lowered s) at → e < length s → get_or s e 0 ≡ 32
-    → (r : ReadU8) → u8_answer r ≡ named months (slice at e (lowered s)) (lowered s) e → NamedAt (lowered s) at r
+    → (r : Option (ℕ × ℕ)) → answer_of r ≡ named months (slice at e (lowered s)) (lowered s) e → NamedAt (lowered s) at r
 unfolding lower
-name_found s at e h l b (u8.Match k n) f =
+name_found s at e h l b (Some p) f =
     let t = word_letters (lowered s) at e h in
-    let m = entry_of months (slice at e (lowered s)) (lowered s) k e n months_small f in
+    let m = entry_of months (slice at e (lowered s)) (lowered s) p.0 e p.1 months_small f in
     let long : e < length (lowered s) = rw (length_lowered s) l in
     let size = length-slice at e (lowered s) (omega arith) in
     rw m.place
@@ -68,4 +67,4 @@ name_found s at e h l b (u8.Match k n) f =
       more = long;
       space = mark s e 32 l b refl;
     })
-name_found s at e h l b u8.NoMatch f = tt
+name_found s at e h l b None f = tt

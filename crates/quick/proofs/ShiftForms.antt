@@ -12,9 +12,11 @@ use lib.Signed.{mag}
 use lib.ListN.{length, get_or, drop}
 use lib.Seq.{slice, length-slice}
 use borrow.Author.Tests.{eqb-true, not-true, ne_eqb}
-use Rattle.primitive.specs.Answer.{if}
+use Rattle.primitive.specs.Answer.{if, matched, place_answer}
+use Rattle.std.specs.Prelude.{Option, Some, None}
+use Rattle.std.specs.Option.{option_eq}
 use Rattle.primitive.specs.Text.{lower, lowered, bytes, blank, digit, letter, tag}
-use Rattle.primitive.specs.Primitive.{decimal, dec_uint, same, place_answer, u32_answer}
+use Rattle.primitive.specs.Primitive.{decimal, dec_uint, same}
 use Rattle.primitive.specs.Ordinal.{signed}
 use Rattle.primitive.proofs.Rows.{all, halves, Number}
 use Rattle.primitive.proofs.Lowered.{length_lowered, rest_cons, rest_none, clash}
@@ -40,14 +42,6 @@ use Rattle.quick.specs.Rows.{Digits}
 use Rattle.quick.specs.Shifts.{relative_of, ShiftAt, BehindSign, UnitAt, word_of, way_of, Plural, Counted, CountAt}
 use Rattle.quick.specs.declared.shifts.TimeUnit.{TimeUnit}
 use Rattle.quick.specs.declared.shifts.TimeUnit.TheVariants as unit
-use Rattle.quick.specs.declared.shifts.ReadShift.{ReadShift}
-use Rattle.quick.specs.declared.shifts.ReadShift.TheVariants as shift
-use Rattle.quick.specs.declared.shifts.ReadUnit.{ReadUnit}
-use Rattle.quick.specs.declared.shifts.ReadUnit.TheVariants as unit-read
-use Rattle.primitive.specs.declared.ReadPlace.{ReadPlace}
-use Rattle.primitive.specs.declared.ReadPlace.TheVariants as place
-use Rattle.primitive.specs.declared.ReadU32.{ReadU32}
-use Rattle.primitive.specs.declared.ReadU32.TheVariants as u32
 use Rattle.quick.proofs.Places.{part, mark}
 use Rattle.quick.proofs.Found.{read_row, read_word}
 
@@ -187,22 +181,22 @@ plural_there s at b h e f = record { many = true; written = rest_cons s at h 115
 pub plural_none : (text : List ℕ) (at : ℕ) → Plural text at at
 plural_none text at = record { many = false; written = refl }
 
-pub ago_written : (s : List ℕ) (at n : ℕ) (r : ReadPlace) → at < length s → get_or s at 0 ≡ 32 → place_answer r ≡ tag (bytes "ago") (lowered s) (at + 1) → r ≡ place.Match n → eqb n (length s) ≡ true → drop at (lowered s) ≡ way_of true
+pub ago_written : (s : List ℕ) (at : ℕ) (r : Option ℕ) → at < length s → get_or s at 0 ≡ 32 → place_answer r ≡ tag (bytes "ago") (lowered s) (at + 1) → option_eq eqb r (Some (length s)) ≡ true → drop at (lowered s) ≡ way_of true
 unfolding lower bytes
-ago_written s at n r h e f g k =
+ago_written s at (Some n) h e f k =
     let z = eqb-true n (length s) k in
-    mark s at 32 h e refl ∙ rw (read_word (bytes "ago") (lowered s) (at + 1) n r f g, rest_none s n (omega arith))
+    mark s at 32 h e refl ∙ rw (read_word (bytes "ago") (lowered s) (at + 1) n f, rest_none s n (omega arith))
+ago_written s at None h e f k = never k
 
 -- the name of a unit
-pub unit_answer : (u : TimeUnit) (text : List ℕ) (at n : ℕ) (r : ReadPlace) → place_answer r ≡ tag (word_of u) text at → r ≡ place.Match n → UnitAt text at (unit-read.Match u n)
+pub unit_answer : (u : TimeUnit) (text : List ℕ) (at n : ℕ) → matched tt n ≡ tag (word_of u) text at → UnitAt text at (Some (u, n))
 unit_answer u = read_word (word_of u)
 
 -- a blank, a unit and its direction
-module _ (s : List ℕ) (at end n v : ℕ) (u : TimeUnit) (negative : Bool) (k : ℤ) (r : ReadUnit) (small : v ≤ 300000000) (h : at < length s) (b : get_or s at 0 ≡ 32) (w : UnitAt (lowered s) (at + 1) r) (found : r ≡ unit-read.Match u end) (p : Plural (lowered s) end n) where
+module _ (s : List ℕ) (at end n v : ℕ) (u : TimeUnit) (negative : Bool) (k : ℤ) (small : v ≤ 300000000) (h : at < length s) (b : get_or s at 0 ≡ 32) (name : UnitAt (lowered s) (at + 1) (Some (u, end))) (p : Plural (lowered s) end n) where
   counted : (ago : Bool) → drop n (lowered s) ≡ way_of ago → k ≡ signed (if ago (not negative) negative) v → Counted (lowered s) at negative v u k
   unfolding lower
   counted ago e a =
-      let name : UnitAt (lowered s) (at + 1) (unit-read.Match u end) = rw found at w in
       record { small = small; many = p.many; ago = ago; written = mark s at 32 h b refl ∙ rw (name, p.written, e); amount = a }
 
   pub counted_here : length s ≤ n → k ≡ signed negative v → Counted (lowered s) at negative v u k
@@ -220,41 +214,41 @@ pub no_minus : (b at : ℕ) → (b ≡ 45 → ⊥) → BehindSign b at at
 no_minus b at e = inl (refl, ne_eqb b 45 e)
 
 -- the digits that were read there
-pub number_there : (s : List ℕ) (at start v n : ℕ) (r : ReadU32) → at < length s → BehindSign (get_or s at 0) at start → u32_answer r ≡ dec_uint 4294967295 (lowered s) start → r ≡ u32.Match v n → Digits (lowered s) start n v
-number_there s at start v n r h (inl (e, f)) = read_row _ _ _ _ r (rw length_lowered (omega arith))
-number_there s at start v n r h (inr (e, f)) = read_row _ _ _ _ r (rw length_lowered (omega arith))
+pub number_there : (s : List ℕ) (at start v n : ℕ) → at < length s → BehindSign (get_or s at 0) at start → matched v n ≡ dec_uint 4294967295 (lowered s) start → Digits (lowered s) start n v
+number_there s at start v n h (inl (e, f)) = read_row _ _ _ _ (rw length_lowered (omega arith))
+number_there s at start v n h (inr (e, f)) = read_row _ _ _ _ (rw length_lowered (omega arith))
 
 -- a number behind a sign, and one without a sign
 module _ (s : List ℕ) (at v n : ℕ) (h : at < length s) where
   there : at < length (lowered s)
   there = rw (length_lowered s) h
 
-  signed_answer : (negative : Bool) → get_or s at 0 ≡ sign_of negative → Digits (lowered s) (at + 1) n v → (r : ReadShift) → CountAt (lowered s) n negative v r → ShiftAt (lowered s) at r
-  signed_answer negative e d (shift.Match u k) c =
-      let w : drop at (lowered s) ≡ sign_of negative ∷ (slice (at + 1) n (lowered s) ++ count_text u c.many c.ago) =
+  signed_answer : (negative : Bool) → get_or s at 0 ≡ sign_of negative → Digits (lowered s) (at + 1) n v → (r : Option (TimeUnit × ℤ)) → CountAt (lowered s) n negative v r → ShiftAt (lowered s) at r
+  signed_answer negative e d (Some got) c =
+      let w : drop at (lowered s) ≡ sign_of negative ∷ (slice (at + 1) n (lowered s) ++ count_text got.0 c.many c.ago) =
       mark s at (sign_of negative) h e (sign_lower negative) ∙ rw (part (lowered s) (at + 1) n d.forward, c.written, append_assoc) in
       let small : decimal (slice (at + 1) n (lowered s)) ≤ 300000000 = rw d.value c.small in
       record {
         still = rw w (sign-still negative (number_head _ d.number));
         there = there;
-        reads = λ bs b. rw (w, c.amount, ← d.value) (signed_item c.many c.ago negative d.number small bs b u);
+        reads = λ bs b. rw (w, c.amount, ← d.value) (signed_item c.many c.ago negative d.number small bs b got.0);
         no_time = rw w (signed_no_time negative _ (number_head _ d.number));
       }
-  signed_answer negative e d shift.NoMatch c = tt
+  signed_answer negative e d None c = tt
 
-  plain_answer : Digits (lowered s) at n v → n - at ≤ 4 → (r : ReadShift) → CountAt (lowered s) n false v r → ShiftAt (lowered s) at r
-  plain_answer d four (shift.Match u k) c =
-      let w : drop at (lowered s) ≡ slice at n (lowered s) ++ count_text u c.many c.ago = part (lowered s) at n d.forward ∙ rw (c.written, append_assoc) in
+  plain_answer : Digits (lowered s) at n v → n - at ≤ 4 → (r : Option (TimeUnit × ℤ)) → CountAt (lowered s) n false v r → ShiftAt (lowered s) at r
+  plain_answer d four (Some got) c =
+      let w : drop at (lowered s) ≡ slice at n (lowered s) ++ count_text got.0 c.many c.ago = part (lowered s) at n d.forward ∙ rw (c.written, append_assoc) in
       let small : decimal (slice at n (lowered s)) ≤ 300000000 = rw d.value c.small in
       let size = length-slice at n (lowered s) d.within in
       record {
         still = rw w (number_still _ d.number);
         there = there;
-        reads = λ bs b. rw (w, c.amount, ← d.value) (plain_item c.many c.ago d.number (omega arith) small bs b u);
-        no_time = rw w (plain_no_time c.many c.ago d.number u);
+        reads = λ bs b. rw (w, c.amount, ← d.value) (plain_item c.many c.ago d.number (omega arith) small bs b got.0);
+        no_time = rw w (plain_no_time c.many c.ago d.number got.0);
       }
-  plain_answer d four shift.NoMatch c = tt
+  plain_answer d four None c = tt
 
-  pub shift_answer : (start : ℕ) → BehindSign (get_or s at 0) at start → Digits (lowered s) start n v → (start ≡ at → n - at ≤ 4) → (r : ReadShift) → CountAt (lowered s) n (eqb (get_or s at 0) 45) v r → ShiftAt (lowered s) at r
+  pub shift_answer : (start : ℕ) → BehindSign (get_or s at 0) at start → Digits (lowered s) start n v → (start ≡ at → n - at ≤ 4) → (r : Option (TimeUnit × ℤ)) → CountAt (lowered s) n (eqb (get_or s at 0) 45) v r → ShiftAt (lowered s) at r
   shift_answer start (inl (e, f)) d four r c = plain_answer (rw e at d) (four e) r (rw f at c)
   shift_answer start (inr (e, f)) d four r c = signed_answer (eqb (get_or s at 0) 45) f (rw e at d) r c

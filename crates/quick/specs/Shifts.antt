@@ -1,5 +1,5 @@
 -- What is known of a relative item where a quick reader answers one: the definitions read the same item.
-use Rattle.std.specs.Prelude.{ℕ, ◌+◌, ◌<◌, ◌≤◌, ◌≡◌, ◌⊎◌, Bool, true, false, not, List, [], ◌∷◌, ◌++◌, eqb, length, drop, ℤ, pos, ◌*ℤ◌}
+use Rattle.std.specs.Prelude.{Option, Some, None, ℕ, ◌+◌, ◌<◌, ◌≤◌, ◌≡◌, ◌⊎◌, Bool, true, false, not, List, [], ◌∷◌, ◌++◌, eqb, length, drop, ℤ, pos, ◌*ℤ◌}
 use Rattle.primitive.specs.Answer.{if}
 use Rattle.primitive.specs.Text.{bytes, blank}
 use Rattle.primitive.specs.Ordinal.{signed}
@@ -15,10 +15,6 @@ use Rattle.forms.proofs.Leaves.{Still, sign_of}
 use Rattle.forms.proofs.Relative.{plural}
 use Rattle.quick.specs.declared.shifts.TimeUnit.{TimeUnit}
 use Rattle.quick.specs.declared.shifts.TimeUnit.TheVariants as unit
-use Rattle.quick.specs.declared.shifts.ReadShift.{ReadShift}
-use Rattle.quick.specs.declared.shifts.ReadShift.TheVariants as shift
-use Rattle.quick.specs.declared.shifts.ReadUnit.{ReadUnit}
-use Rattle.quick.specs.declared.shifts.ReadUnit.TheVariants as unit-read
 
 -- so many units
 abbrev pub relative_of : TimeUnit → ℤ → Relative
@@ -36,9 +32,9 @@ pub record Shift (text : List ℕ) (at : ℕ) (u : TimeUnit) (n : ℤ) : Type 0 
   pub reads : (bs : List ℕ) → all blank bs ≡ true → Reads parse_item (bs ++ drop at text) (item.Relative (relative_of u n)) []
   pub no_time : (d : Date) → Fails (parse_time_after_date d) (32 ∷ drop at text)
 
-abbrev pub ShiftAt : List ℕ → ℕ → ReadShift → Type 0
-ShiftAt text at (shift.Match u n) = Shift text at u n
-ShiftAt text at shift.NoMatch = Unit {0}
+abbrev pub ShiftAt : List ℕ → ℕ → Option (TimeUnit × ℤ) → Type 0
+ShiftAt text at (Some p) = Shift text at p.0 p.1
+ShiftAt text at None = Unit {0}
 
 -- ---- the parts
 
@@ -55,9 +51,9 @@ word_of unit.Hour = bytes "hour"
 word_of unit.Second = bytes "second"
 
 -- the name of a unit, up to the place n
-abbrev pub UnitAt : List ℕ → ℕ → ReadUnit → Type 0
-UnitAt text at (unit-read.Match u n) = drop at text ≡ word_of u ++ drop n text
-UnitAt text at unit-read.NoMatch = Unit {0}
+abbrev pub UnitAt : List ℕ → ℕ → Option (TimeUnit × ℕ) → Type 0
+UnitAt text at (Some p) = drop at text ≡ word_of p.0 ++ drop p.1 text
+UnitAt text at None = Unit {0}
 
 -- a blank and `ago`, or nothing
 abbrev pub way_of : Bool → List ℕ
@@ -77,6 +73,6 @@ pub record Counted (text : List ℕ) (at : ℕ) (negative : Bool) (n : ℕ) (u :
   pub written : drop at text ≡ 32 ∷ (word_of u ++ (plural many ++ way_of ago))
   pub amount : k ≡ signed (if ago (not negative) negative) n
 
-abbrev pub CountAt : List ℕ → ℕ → Bool → ℕ → ReadShift → Type 0
-CountAt text at negative n (shift.Match u k) = Counted text at negative n u k
-CountAt text at negative n shift.NoMatch = Unit {0}
+abbrev pub CountAt : List ℕ → ℕ → Bool → ℕ → Option (TimeUnit × ℤ) → Type 0
+CountAt text at negative n (Some p) = Counted text at negative n p.0 p.1
+CountAt text at negative n None = Unit {0}

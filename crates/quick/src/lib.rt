@@ -12,21 +12,19 @@ mod shifts;
 
 ghost use Rattle.std.specs.Prelude.{◌≡◌, true, ◌<◌, ◌≤◌, length};
 ghost use Rattle.primitive.specs.Text.{lowered};
-ghost use Rattle.extended.specs.Extended.{made_of, accept};
-ghost use Rattle.builder.specs.Building.{built_of, add_relative};
+ghost use Rattle.extended.specs.Extended.{accept};
+ghost use Rattle.extended.specs.Refusals.{outcome_of, placed_of};
+ghost use Rattle.builder.specs.Building.{add_relative};
 ghost use Rattle.builder.proofs.DateAndTime.{offset_or};
 ghost use Rattle.reading.specs.Reading.{ascii_end, read_text};
 ghost use Rattle.quick.specs.Days.{OtherDate};
-ghost use Rattle.quick.specs.Clocks.{zone_of, zone_small};
 ghost use Rattle.quick.specs.Shifts.{relative_of};
-ghost use Rattle.quick.specs.Shapes.{Small, ShapeOf, SeparatorAt, at_midnight, record_of, AtOnce};
+ghost use Rattle.quick.specs.Shapes.{ShapeOf, SeparatorAt, at_midnight, record_of, AtOnce};
 
-use crate::clocks::{ReadClock, Zone};
-use crate::days::ReadDay;
-use crate::shifts::{ReadShift, TimeUnit};
-use builder::Built;
-use extended::{DateParts, ExtendedDateTime, Made, TimeParts};
+use crate::shifts::TimeUnit;
+use extended::{DateParts, ExtendedDateTime, PlacedRefusal, Refusal, TimeParts};
 use times::offset::Offset;
+use times::time::Time;
 
 // A longer text is not tried: of these forms it could only be one with many zeros in front of a number.
 const LONGEST: usize = 128;
@@ -34,32 +32,20 @@ const LONGEST: usize = 128;
 // A date and a time of day, midnight where none is given, and the place behind them and the blanks that follow.
 #[derive(Clone, Copy)]
 struct Shape {
-    year: u32,
-    month: u32,
-    day: u32,
-    hour: u32,
-    minute: u32,
-    second: u32,
-    nanosecond: u32,
-    zone: Zone,
+    date: DateParts,
+    time: Time,
     next: usize,
 }
 
-#[derive(Clone, Copy)]
-enum ReadShape {
-    Match(Shape),
-    NoMatch,
-}
-
 // A text under a base, as `reading` reads it.
-pub fn read_text(text: &[u8], base: ExtendedDateTime) -> Built
-    ensures { built_of result ≡ read_text text.now base }
+pub fn read_text(text: &[u8], base: ExtendedDateTime) -> Result<ExtendedDateTime, PlacedRefusal>
+    ensures { placed_of result ≡ read_text text.now base }
 {
-    if base.refusal() == 0 {
+    if base.test().is_ok() {
         if text.len() <= LONGEST {
             if highest(text) < 128 {
-                if let Made::Record(dt) = at_once(text, base) {
-                    return Built::Record(dt);
+                if let Some(dt) = at_once(text, base) {
+                    return Ok(dt);
                 }
             }
         }
@@ -72,59 +58,40 @@ fn highest(text: &[u8]) -> u8
     ensures { result < 128 → length text.now ≤ ascii_end (lowered text.now) }
 {
     let mut most: u8 = 0;
-    let mut i = 0;
-    while i < text.len() {
-        most = larger(most, text[i]);
-        i += 1;
+    for byte in text {
+        most = most.max(*byte);
     }
     most
 }
 
-fn larger(a: u8, b: u8) -> u8
-    ensures { (a ≤ result) × (b ≤ result) }
-{
-    if a < b {
-        return b;
-    }
-    a
-}
-
-// The record of a text; a refusal says nothing of it.
-fn at_once(s: &[u8], base: ExtendedDateTime) -> Made
+// The record of a text, if it is one of these.
+fn at_once(s: &[u8], base: ExtendedDateTime) -> Option<ExtendedDateTime>
     ensures { AtOnce (lowered s.now) base result }
 {
-    let ReadShape::Match(x) = read_shape(s) else {
-        return Made::Refused(0);
-    };
-    let next = x.next;
-    let made = moment(x, base.offset_seconds);
-    if s.len() <= next {
-        return made;
+    let x = read_shape(s)?;
+    let dt = moment(x, base.offset_seconds).ok()?;
+    if s.len() <= x.next {
+        return Some(dt);
     }
-    let Made::Record(dt) = made else {
-        return made;
-    };
-    let ReadShift::Match(unit, n) = crate::shifts::shift(s, next) else {
-        return Made::Refused(0);
-    };
-    moved(dt, unit, n)
+    let (unit, n) = crate::shifts::shift(s, x.next)?;
+    moved(dt, unit, n).ok()
 }
 
 // The date and the time of day at the front of a text.
-fn read_shape(s: &[u8]) -> ReadShape
+fn read_shape(s: &[u8]) -> Option<Shape>
     ensures { ShapeOf (lowered s.now) result }
 {
     if s.len() < 8 {
-        return ReadShape::NoMatch;
+        return None;
     }
     if s[4] == 45 {
         return iso_shape(s);
     }
-    other_shape(s, other_date(s))
+    other_shape(s)
 }
 
 // A date that begins with a number or with a month's name.
-fn other_date(s: &[u8]) -> ReadDay
+fn other_date(s: &[u8]) -> Option<(DateParts, usize)>
     requires { 0 < length s.now }
     ensures { OtherDate (lowered s.now) result }
 {
@@ -135,39 +102,23 @@ fn other_date(s: &[u8]) -> ReadDay
 }
 
 // An ISO date, with the time in the same item or alone.
-fn iso_shape(s: &[u8]) -> ReadShape
+fn iso_shape(s: &[u8]) -> Option<Shape>
     ensures { ShapeOf (lowered s.now) result }
 {
-    let ReadDay::Match(year, month, day, at) = crate::days::iso_date(s) else {
-        return ReadShape::NoMatch;
-    };
+    let (date, at) = crate::days::iso_date(s)?;
     if at == s.len() {
-        return midnight(year, month, day, at);
+        return Some(midnight(date, at));
     }
     let b = s[at];
     let start = at + 1;
     if timed(s, at) {
-        let ReadClock::Match(hour, minute, second, nanosecond, zone, next) = crate::clocks::clock(
-            s, start,
-        ) else {
-            return ReadShape::NoMatch;
-        };
-        return ReadShape::Match(Shape {
-            year,
-            month,
-            day,
-            hour,
-            minute,
-            second,
-            nanosecond,
-            zone,
-            next,
-        });
+        let (time, next) = crate::clocks::clock(s, start)?;
+        return Some(Shape { date, time, next });
     }
     if b == 32 {
-        return midnight(year, month, day, start);
+        return Some(midnight(date, start));
     }
-    ReadShape::NoMatch
+    None
 }
 
 // Whether a blank or a `t` stands there, and a time of two digits, a colon and more seems to follow.
@@ -192,49 +143,30 @@ fn timed(s: &[u8], at: usize) -> bool
 }
 
 // The start of a day.
-fn midnight(year: u32, month: u32, day: u32, next: usize) -> ReadShape
-    ensures { result ≡ ReadShape.Match (at_midnight year month day next) }
+fn midnight(date: DateParts, next: usize) -> Shape
+    ensures { result ≡ at_midnight date next }
 {
-    ReadShape::Match(Shape {
-        year,
-        month,
-        day,
+    let time = Time {
         hour: 0,
         minute: 0,
         second: 0,
         nanosecond: 0,
-        zone: Zone::NotGiven,
-        next,
-    })
+        offset: None,
+    };
+    Shape { date, time, next }
 }
 
 // Another date, with a time as an item of its own or without one.
-fn other_shape(s: &[u8], read: ReadDay) -> ReadShape
-    requires { OtherDate (lowered s.now) read × (0 < length s.now) }
+fn other_shape(s: &[u8]) -> Option<Shape>
+    requires { 0 < length s.now }
     ensures { ShapeOf (lowered s.now) result }
 {
-    let ReadDay::Match(year, month, day, at) = read else {
-        return ReadShape::NoMatch;
-    };
+    let (date, at) = other_date(s)?;
     if !clocked(s, at) {
-        return midnight(year, month, day, at);
+        return Some(midnight(date, at));
     }
-    let ReadClock::Match(hour, minute, second, nanosecond, zone, next) = crate::clocks::half_day(
-        s, at,
-    ) else {
-        return ReadShape::NoMatch;
-    };
-    ReadShape::Match(Shape {
-        year,
-        month,
-        day,
-        hour,
-        minute,
-        second,
-        nanosecond,
-        zone,
-        next,
-    })
+    let (time, next) = crate::clocks::half_day(s, at)?;
+    Some(Shape { date, time, next })
 }
 
 // Whether a colon stands behind one byte or two.
@@ -252,53 +184,39 @@ fn clocked(s: &[u8], at: usize) -> bool {
 }
 
 // The record of a shape, at the offset of the base where it has none.
-fn moment(x: Shape, base: i32) -> Made
-    requires { Small x }
-    ensures { made_of result ≡ accept (record_of x base) }
+fn moment(x: Shape, base: i32) -> Result<ExtendedDateTime, Refusal>
+    ensures { outcome_of result ≡ accept (record_of x base) }
 {
-    let date = DateParts {
-        year: x.year,
-        month: x.month as u8,
-        day: x.day as u8,
-    };
     let time = TimeParts {
-        hour: x.hour as u8,
-        minute: x.minute as u8,
-        second: x.second as u8,
-        nanosecond: x.nanosecond,
+        hour: x.time.hour,
+        minute: x.time.minute,
+        second: x.time.second,
+        nanosecond: x.time.nanosecond,
     };
-    let zone = x.zone;
-    ExtendedDateTime::new(date, time, offset_or(base, zone))
+    ExtendedDateTime::new(x.date, time, offset_or(base, x.time.offset))
 }
 
 // The offset that is given, or that of the base.
-fn offset_or(base: i32, zone: Zone) -> i32
-    requires { zone_small zone }
-    ensures { result ≡ offset_or base (zone_of zone) }
+fn offset_or(base: i32, given: Option<Offset>) -> i32
+    ensures { result ≡ offset_or base given }
 {
-    match zone {
-        Zone::Given(negative, hours, minutes) => {
-            let offset = Offset {
-                negative,
-                hours: hours as u8,
-                minutes: minutes as u8,
-            };
-            offset.total_seconds()
-        }
-        Zone::NotGiven => base,
+    match given {
+        Some(offset) => offset.total_seconds(),
+        None => base,
     }
 }
 
 // A record so many units away.
-fn moved(dt: ExtendedDateTime, unit: TimeUnit, n: i32) -> Made
-    ensures { made_of result ≡ add_relative (relative_of unit n) dt }
+#[tactic(auto, unfolding(builder::specs::Building::add_relative))]
+fn moved(dt: ExtendedDateTime, unit: TimeUnit, n: i32) -> Result<ExtendedDateTime, Refusal>
+    ensures { outcome_of result ≡ add_relative (relative_of unit n) dt }
 {
     match unit {
         TimeUnit::Year => sums::checked_add_years(dt, n),
         TimeUnit::Month => sums::checked_add_months(dt, n),
-        TimeUnit::Week => sums::checked_add_days(dt, n as i64 * 7),
-        TimeUnit::Day => sums::checked_add_days(dt, n as i64),
-        TimeUnit::Hour => sums::checked_add_hours(dt, n as i64),
-        TimeUnit::Second => moments::checked_add_seconds(dt, n as i64, 0),
+        TimeUnit::Week => sums::checked_add_days(dt, i64::from(n) * 7),
+        TimeUnit::Day => sums::checked_add_days(dt, i64::from(n)),
+        TimeUnit::Hour => sums::checked_add_hours(dt, i64::from(n)),
+        TimeUnit::Second => moments::checked_add_seconds(dt, i64::from(n), 0),
     }
 }

@@ -5,8 +5,6 @@ ghost use Rattle.std.specs.Prelude.{◌<◌, ◌≡◌, true, length, get_or, dr
 ghost use Rattle.primitive.specs.Text.{lowered};
 ghost use Rattle.quick.specs.Shifts.{ShiftAt, BehindSign, CountAt, UnitAt, Plural, way_of};
 
-use primitive::{ReadPlace, ReadU32};
-
 #[derive(Clone, Copy)]
 pub enum TimeUnit {
     Year,
@@ -18,33 +16,18 @@ pub enum TimeUnit {
 }
 
 // How many units, back where the number is below 0.
-#[derive(Clone, Copy)]
-pub enum ReadShift {
-    Match(TimeUnit, i32),
-    NoMatch,
-}
-
-// A unit, and where its name ends.
-#[derive(Clone, Copy)]
-pub enum ReadUnit {
-    Match(TimeUnit, usize),
-    NoMatch,
-}
-
 // A number without a sign has four digits at most: a longer one may be a date.
-pub(crate) fn shift(s: &[u8], at: usize) -> ReadShift
+pub(crate) fn shift(s: &[u8], at: usize) -> Option<(TimeUnit, i32)>
     ensures { ShiftAt (lowered s.now) at result }
 {
     if s.len() <= at {
-        return ReadShift::NoMatch;
+        return None;
     }
     let start = behind_sign(s, at);
-    let ReadU32::Match(n, end) = numbers::dec_u32(s, start) else {
-        return ReadShift::NoMatch;
-    };
+    let (n, end) = numbers::dec_u32(s, start)?;
     if start == at {
         if end - at > 4 {
-            return ReadShift::NoMatch;
+            return None;
         }
     }
     count(s, end, s[at] == 45, n)
@@ -65,54 +48,52 @@ fn behind_sign(s: &[u8], at: usize) -> usize
 }
 
 // A blank, the unit, and which way it goes. The bound keeps a number of weeks in an i32.
-fn count(s: &[u8], at: usize, negative: bool, n: u32) -> ReadShift
+fn count(s: &[u8], at: usize, negative: bool, n: u32) -> Option<(TimeUnit, i32)>
     ensures { CountAt (lowered s.now) at negative n result }
 {
     if 300000000 < n {
-        return ReadShift::NoMatch;
+        return None;
     }
     if s.len() <= at {
-        return ReadShift::NoMatch;
+        return None;
     }
     if s[at] != 32 {
-        return ReadShift::NoMatch;
+        return None;
     }
-    let ReadUnit::Match(unit, end) = unit_at(s, at + 1) else {
-        return ReadShift::NoMatch;
-    };
+    let (unit, end) = unit_at(s, at + 1)?;
     let end = behind_plural(s, end);
     if s.len() <= end {
-        return ReadShift::Match(unit, numbers::with_sign(negative, n) as i32);
+        return Some((unit, numbers::with_sign(negative, n) as i32));
     }
     if ago(s, end) {
-        return ReadShift::Match(unit, numbers::with_sign(!negative, n) as i32);
+        return Some((unit, numbers::with_sign(!negative, n) as i32));
     }
-    ReadShift::NoMatch
+    None
 }
 
 // The name of a unit.
-fn unit_at(s: &[u8], at: usize) -> ReadUnit
+fn unit_at(s: &[u8], at: usize) -> Option<(TimeUnit, usize)>
     ensures { UnitAt (lowered s.now) at result }
 {
-    if let ReadPlace::Match(end) = primitive::tag(s, at, b"second") {
-        return ReadUnit::Match(TimeUnit::Second, end);
+    if let Some(end) = primitive::tag(s, at, b"second") {
+        return Some((TimeUnit::Second, end));
     }
-    if let ReadPlace::Match(end) = primitive::tag(s, at, b"day") {
-        return ReadUnit::Match(TimeUnit::Day, end);
+    if let Some(end) = primitive::tag(s, at, b"day") {
+        return Some((TimeUnit::Day, end));
     }
-    if let ReadPlace::Match(end) = primitive::tag(s, at, b"week") {
-        return ReadUnit::Match(TimeUnit::Week, end);
+    if let Some(end) = primitive::tag(s, at, b"week") {
+        return Some((TimeUnit::Week, end));
     }
-    if let ReadPlace::Match(end) = primitive::tag(s, at, b"month") {
-        return ReadUnit::Match(TimeUnit::Month, end);
+    if let Some(end) = primitive::tag(s, at, b"month") {
+        return Some((TimeUnit::Month, end));
     }
-    if let ReadPlace::Match(end) = primitive::tag(s, at, b"hour") {
-        return ReadUnit::Match(TimeUnit::Hour, end);
+    if let Some(end) = primitive::tag(s, at, b"hour") {
+        return Some((TimeUnit::Hour, end));
     }
-    if let ReadPlace::Match(end) = primitive::tag(s, at, b"year") {
-        return ReadUnit::Match(TimeUnit::Year, end);
+    if let Some(end) = primitive::tag(s, at, b"year") {
+        return Some((TimeUnit::Year, end));
     }
-    ReadUnit::NoMatch
+    None
 }
 
 // Behind an `s`, or the same place.
@@ -135,8 +116,5 @@ fn ago(s: &[u8], at: usize) -> bool
     if s[at] != 32 {
         return false;
     }
-    let ReadPlace::Match(end) = primitive::tag(s, at + 1, b"ago") else {
-        return false;
-    };
-    end == s.len()
+    primitive::tag(s, at + 1, b"ago") == Some(s.len())
 }

@@ -7,13 +7,12 @@ ghost use Rattle.extended.specs.Calendar.{month_days};
 ghost use Rattle.extended.specs.Extended.{make, date, time, accept, from_unix_seconds, unix_seconds, add_days, add_hours, add_minutes, add_seconds, add_years, add_months, weekday_monday0, day_of_year};
 ghost use Rattle.writer.specs.Writer.{written, bytes_of, written_answer, over};
 ghost use Rattle.extended.specs.Placed.{place_of};
-ghost use Rattle.builder.specs.Building.{built_of};
+ghost use Rattle.extended.specs.Refusals.{placed_of};
 ghost use Rattle.reading.specs.Reading.{read_text};
 ghost use Rattle.packet.specs.Packet.{read_packet};
 ghost use Rattle.hosts.specs.Hosts.{record_answer, moment_answer, number_answer, placed_answer};
 
-use builder::Built;
-use extended::{DateParts, ExtendedDateTime, TimeParts};
+use extended::{DateParts, ExtendedDateTime, PlacedRefusal, TimeParts};
 use hosts::{Answer, Moment, Number, Record};
 use writer::Written;
 
@@ -37,7 +36,7 @@ pub extern "C" fn seqtullo_new(
         second,
         nanosecond,
     };
-    hosts::record_answer(ExtendedDateTime::new(date, time, offset_seconds))
+    ExtendedDateTime::new(date, time, offset_seconds).into()
 }
 
 #[unsafe(no_mangle)]
@@ -48,56 +47,56 @@ pub extern "C" fn seqtullo_from_unix_seconds(
 ) -> Answer
     ensures { result ≡ record_answer (from_unix_seconds unix_seconds nanosecond offset_seconds) }
 {
-    hosts::record_answer(moments::from_unix_seconds(unix_seconds, nanosecond, offset_seconds))
+    moments::from_unix_seconds(unix_seconds, nanosecond, offset_seconds).into()
 }
 
 #[unsafe(no_mangle)]
 pub extern "C" fn seqtullo_unix_seconds(record: Record) -> Moment
     ensures { result ≡ moment_answer (unix_seconds «record») }
 {
-    hosts::moment_answer(moments::unix_seconds(record))
+    moments::unix_seconds(record).into()
 }
 
 #[unsafe(no_mangle)]
 pub extern "C" fn seqtullo_add_days(record: Record, days: i64) -> Answer
     ensures { result ≡ record_answer (add_days «record» days) }
 {
-    hosts::record_answer(sums::checked_add_days(record, days))
+    sums::checked_add_days(record, days).into()
 }
 
 #[unsafe(no_mangle)]
 pub extern "C" fn seqtullo_add_hours(record: Record, hours: i64) -> Answer
     ensures { result ≡ record_answer (add_hours «record» hours) }
 {
-    hosts::record_answer(sums::checked_add_hours(record, hours))
+    sums::checked_add_hours(record, hours).into()
 }
 
 #[unsafe(no_mangle)]
 pub extern "C" fn seqtullo_add_minutes(record: Record, minutes: i64) -> Answer
     ensures { result ≡ record_answer (add_minutes «record» minutes) }
 {
-    hosts::record_answer(sums::checked_add_minutes(record, minutes))
+    sums::checked_add_minutes(record, minutes).into()
 }
 
 #[unsafe(no_mangle)]
 pub extern "C" fn seqtullo_add_seconds(record: Record, seconds: i64, nanoseconds: u32) -> Answer
     ensures { result ≡ record_answer (add_seconds «record» seconds nanoseconds) }
 {
-    hosts::record_answer(moments::checked_add_seconds(record, seconds, nanoseconds))
+    moments::checked_add_seconds(record, seconds, nanoseconds).into()
 }
 
 #[unsafe(no_mangle)]
 pub extern "C" fn seqtullo_add_years(record: Record, years: i32) -> Answer
     ensures { result ≡ record_answer (add_years «record» years) }
 {
-    hosts::record_answer(sums::checked_add_years(record, years))
+    sums::checked_add_years(record, years).into()
 }
 
 #[unsafe(no_mangle)]
 pub extern "C" fn seqtullo_add_months(record: Record, months: i32) -> Answer
     ensures { result ≡ record_answer (add_months «record» months) }
 {
-    hosts::record_answer(sums::checked_add_months(record, months))
+    sums::checked_add_months(record, months).into()
 }
 
 // 0 for Monday to 6 for Sunday.
@@ -105,14 +104,14 @@ pub extern "C" fn seqtullo_add_months(record: Record, months: i32) -> Answer
 pub extern "C" fn seqtullo_weekday(record: Record) -> Number
     ensures { result ≡ number_answer (weekday_monday0 «record») }
 {
-    hosts::number_answer(moments::weekday_monday0(record))
+    moments::weekday_monday0(record).into()
 }
 
 #[unsafe(no_mangle)]
 pub extern "C" fn seqtullo_day_of_year(record: Record) -> Number
     ensures { result ≡ number_answer (day_of_year «record») }
 {
-    hosts::number_answer(moments::day_of_year(record))
+    moments::day_of_year(record).into()
 }
 
 #[unsafe(no_mangle)]
@@ -123,19 +122,20 @@ pub extern "C" fn seqtullo_days_in_month(year: u32, month: u8) -> u8
 }
 
 // Refusals from 2 to 8 have a place: a byte's index for 2 to 4, an item's for 5 to 8.
-fn placed_answer(built: Built) -> Answer
-    requires { place_of (built_of built) ≤ 4096 }
-    ensures { result ≡ placed_answer (built_of built) }
+#[tactic(auto, unfolding(hosts::specs::Hosts::placed_answer))]
+fn placed_answer(read: Result<ExtendedDateTime, PlacedRefusal>) -> Answer
+    requires { place_of (placed_of read) ≤ 4096 }
+    ensures { result ≡ placed_answer (placed_of read) }
 {
-    match built {
-        Built::Record(record) => Answer {
+    match read {
+        Ok(record) => Answer {
             number: 0,
             place: 0,
-            record: record,
+            record,
         },
-        Built::Refused(number, place) => Answer {
-            number: number,
-            place: place as u32,
+        Err(refused) => Answer {
+            number: u32::from(refused.refusal),
+            place: refused.place as u32,
             record: ExtendedDateTime::blank(),
         },
     }

@@ -3,25 +3,27 @@ use borrow.Author.Rules.{rules}
 use Rattle.lines_lib.proofs.Answering.{going_on, stopped_full, stopped_unended, stopped_none}
 use Rattle.lines_lib.proofs.put_answers.Goals as goal
 
-pub returns-then-out-used-lt-LONGEST_ANSWER : goal.returns-then-out-used-lt-LONGEST_ANSWER
-returns-then-out-used-lt-LONGEST_ANSWER c =
-    let s = stopped_full c.loop-taken.invariant c.loop-taken-test.true c.if-out-used-lt-LONGEST_ANSWER.true in
+pub returns-then-out-progress-lt-LONGEST_ANSWER : goal.returns-then-out-progress-lt-LONGEST_ANSWER
+returns-then-out-progress-lt-LONGEST_ANSWER c =
+    let s = stopped_full c.loop-progress.invariant.0 c.loop-progress-test.true c.if-out-progress-lt-LONGEST_ANSWER.true in
     record { taken_in_bounds = s.0; taken_value = s.1.0; put = s.1.1.0; full_value = s.1.1.1 }
 
 pub returns-then-end-chunk : goal.returns-then-end-chunk
 returns-then-end-chunk c =
+    let g = c.loop-progress.invariant in
     let e = c.line_end-end in
-    let s = stopped_unended c.loop-taken.invariant e.result e.ensures.0 c.if-end-chunk.true c.if-out-used-lt-LONGEST_ANSWER.false in
-    record { taken_in_bounds = s.0; taken_value = s.1.0; put = s.1.1.0; full_value = s.1.1.1 }
+    let s = stopped_unended g.0 e.result e.ensures.0 c.if-end-chunk.true c.if-out-progress-lt-LONGEST_ANSWER.false in
+    record { taken_in_bounds = s.0; taken_value = s.1.0; put = s.1.1.0; full_value = rw g.1 s.1.1.1 }
 
-pub loop-taken-preserved : goal.loop-taken-preserved
-loop-taken-preserved c =
-    let l = c.loop-taken in
+pub loop-progress-preserved : goal.loop-progress-preserved
+loop-progress-preserved c =
+    let g = c.loop-progress.invariant in
     let e = c.line_end-end in
-    let p = c.put_line-used in
-    going_on l.invariant e.result p.result p.new.out e.ensures.0 c.if-end-chunk.false (search rules) (search rules) p.ensures.upper_bound p.ensures.put
+    let p = c.put_line in
+    (going_on g.0 e.result p.result p.new.out e.ensures.0 c.if-end-chunk.false (search rules) (search rules) p.ensures.upper_bound p.ensures.put, g.1)
 
-pub returns : goal.returns
-returns c =
-    let s = stopped_none c.loop-taken.invariant c.loop-taken-test.false in
-    record { taken_in_bounds = s.0; taken_value = s.1.0; put = s.1.1.0; full_value = s.1.1.1 }
+pub returns-after-loop-progress : goal.returns-after-loop-progress
+returns-after-loop-progress c =
+    let g = c.loop-progress.invariant in
+    let s = stopped_none g.0 c.loop-progress-test.false in
+    record { taken_in_bounds = s.0; taken_value = s.1.0; put = s.1.1.0; full_value = rw g.1 s.1.1.1 }

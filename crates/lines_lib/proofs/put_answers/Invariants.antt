@@ -1,11 +1,13 @@
 -- `lines_lib::put_answers` meets its contract: what is answered and what is left to answer are the whole, at each turn. Assumes nothing.
 use Prim.Native.Nat.{◌-◌}
+use mathlib.Core.Path.{◌≡◌}
+use mathlib.Core.Bool.{false}
 use lib.ListN.{length}
 use Rattle.lines_lib.proofs.Answering.{Going}
 use Rattle.lines_lib.proofs.put_answers.Given as goal
 
-abbrev pub invariant-loop-taken : goal.invariant-loop-taken
-invariant-loop-taken l = Going l.chunk l.base l.initial.out l.out l.taken l.used
+abbrev pub invariant-loop-progress : goal.invariant-loop-progress
+invariant-loop-progress l = Going l.chunk l.base l.initial.out l.out l.progress.taken l.progress.used × (l.progress.full ≡ false)
 
-abbrev pub decreases-loop-taken : goal.decreases-loop-taken
-decreases-loop-taken l = length l.chunk - l.taken
+abbrev pub decreases-loop-progress : goal.decreases-loop-progress
+decreases-loop-progress l = length l.chunk - l.progress.taken

@@ -1,24 +1,25 @@
 -- A record that `at_once` makes is the one that the text builds. Assumes nothing.
 use borrow.Author.Rules.{rules}
+use mathlib.Core.Path.{◌≡◌}
 use mir.Syntax.{w32}
 use mir.Val.{SFits}
 use mir.Facts.{to_z-of_z}
+use Rattle.extended.specs.Outcome.{accepted}
+use Rattle.extended.specs.Extended.{accept}
 use Rattle.primitive.proofs.Lowered.{length_lowered}
-use Rattle.quick.proofs.Fronts.{shape_there, shift_there}
-use Rattle.quick.proofs.Whole.{whole_at_once, moved_at_once}
+use Rattle.quick.specs.Shapes.{record_of}
+use Rattle.quick.proofs.Whole.{whole_at_once, moved_if, held}
 use Rattle.quick.proofs.at_once.Goals as goal
 
-pub returns-then-s-next : goal.returns-then-s-next
-returns-then-s-next c =
+pub returns-then-s-x : goal.returns-then-s-x
+returns-then-s-x c =
     let base_fits : SFits w32 c.args.base.offset_seconds = search rules in
-    let k = c in whole_at_once c.args.base (shape_there _ k.read_shape.ensures k.in-Match.is) c.moment-made.result (rw (to_z-of_z base_fits) at c.moment-made.ensures) (rw length_lowered c.if-s-next.true)
+    let made : accepted c.in_ok-dt.dt ≡ accept (record_of c.in_ok-x.x c.args.base.offset_seconds) = held {a = c.in_ok-dt.dt} c.moment.result c.in_ok-dt.ensures.value (rw (to_z-of_z base_fits) at c.moment.ensures) in
+    whole_at_once c.args.base c.in_ok-x.ensures _ made (rw length_lowered c.if-s-x.true)
 
 pub returns : goal.returns
 returns c =
     let base_fits : SFits w32 c.args.base.offset_seconds = search rules in
-    let amount_fits : SFits w32 c.in-Match-shift.n = search rules in
-    let h = c in
-    let m = h in
-    let k = m in
-    moved_at_once m.args.base (shape_there _ k.read_shape.ensures k.in-Match.is) m.moment-made.result (rw (to_z-of_z base_fits) at m.moment-made.ensures) h.in-Record.is
-    (shift_there _ h.shift.ensures c.in-Match-shift.is) c.moved.result (rw (to_z-of_z amount_fits) at c.moved.ensures)
+    let amount_fits : SFits w32 c.in_ok-unit.n = search rules in
+    let made : accepted c.in_ok-dt.dt ≡ accept (record_of c.in_ok-x.x c.args.base.offset_seconds) = held {a = c.in_ok-dt.dt} c.moment.result c.in_ok-dt.ensures.value (rw (to_z-of_z base_fits) at c.moment.ensures) in
+    rw c.ok-2.ensures.value (moved_if c.args.base c.in_ok-x.ensures _ made c.in_ok-unit.ensures _ (rw (to_z-of_z amount_fits) at c.moved.ensures))

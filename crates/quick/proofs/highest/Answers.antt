@@ -1,15 +1,15 @@
--- Where the answer is below 128 every byte is. The invariant: so it is up to `i`. Assumes nothing.
+-- Where the answer is below 128 every byte is. Assumes nothing.
 use mathlib.Core.Path.{refl}
 use Rattle.reading.specs.Reading.{ascii_end}
 use Rattle.quick.proofs.Whole.{below_next, below_all}
 use Rattle.quick.proofs.highest.Goals as goal
 
-pub loop-i-init : goal.loop-i-init
+pub loop-byte-init : goal.loop-byte-init
 unfolding ascii_end
-loop-i-init c = λ _. refl
+loop-byte-init c = λ _. refl
 
-pub loop-i-preserved : goal.loop-i-preserved
-loop-i-preserved c = let l = c in below_next _ l.loop-i.i l.loop-i.most c.larger-most.result l.loop-i.invariant c.loop-i-test.true c.larger-most.ensures.0 c.larger-most.ensures.1
+pub loop-byte-preserved : goal.loop-byte-preserved
+loop-byte-preserved c = λ h. below_next _ c.loop-byte.byte-index c.loop-byte.most c.loop-byte.invariant c.loop-byte-test.true (rw c.max-most.ensures at h)
 
 pub returns : goal.returns
-returns c = λ h. below_all _ c.loop-i.i (c.loop-i.invariant h) c.loop-i-test.false
+returns c = λ h. below_all _ c.loop-byte.byte-index (c.loop-byte.invariant h) c.loop-byte-test.false

@@ -1,4 +1,4 @@
--- `quick::clocks::fraction_and_zone` meets its contract: what it answers stands behind the digits of the second. Assumes nothing.
+-- What `fraction_and_zone` answers stands behind the digits of the second. Assumes nothing.
 use mathlib.Core.Logic.{inl, inr}
 use mathlib.Core.Path.{refl}
 use Rattle.quick.proofs.ClockForms.{zone_ends, zone_before}
@@ -11,8 +11,8 @@ returns-then-end-s c =
       refl,
       (
         refl,
-        λ ds d e small. zone_ends _ _ _ _ _ k.if-s-lt16.false k.if-s-at.false k.if-s-at-ne46.false k.nine-nanosecond.ensures.1 k.if-nanosecond-gt999999999.false
-            (elim k.if-sign-ne43.branch [ then-sign-ne43+else-sign-ne45 w ↦ inr w.if-sign-ne45.false | else-sign-ne43 w ↦ inl w.if-sign-ne43.false ]) k.two-hours.ensures.1 k.if-hours-gt23.false k.if-s-at-ne58.false k.two-minutes.ensures.1 k.if-minutes-gt59.false d e small c.if-end-s.true,
+        λ ds d e small. zone_ends _ _ _ _ _ k.if-s-lt16.false k.if-s-at.false k.if-s-at-ne46.false k.in_ok-nanosecond.ensures.0 k.in_ok-nanosecond.ensures.1
+            (elim k.if-sign-ne43.branch [ then-sign-ne43+else-sign-ne45 w ↦ inr w.if-sign-ne45.false | else-sign-ne43 w ↦ inl w.if-sign-ne43.false ]) k.in_ok-hours.ensures.1 k.if-hours-gt23.false k.if-s-at-ne58.false k.in_ok-minutes.ensures.1 k.if-minutes-gt59.false d e small c.if-end-s.true,
       ),
     )
 
@@ -22,8 +22,7 @@ returns c =
       refl,
       (
         refl,
-        λ ds d e small. zone_before _ _ _ _ _ k.if-s-lt16.false k.if-s-at.false k.if-s-at-ne46.false k.nine-nanosecond.ensures.1 k.if-nanosecond-gt999999999.false
-            (elim k.if-sign-ne43.branch [ then-sign-ne43+else-sign-ne45 w ↦ inr w.if-sign-ne45.false | else-sign-ne43 w ↦ inl w.if-sign-ne43.false ]) k.two-hours.ensures.1 k.if-hours-gt23.false k.if-s-at-ne58.false k.two-minutes.ensures.1 k.if-minutes-gt59.false d e small
-            c.if-s-end-ne32.false c.if-s-next.false c.if-s-next-lt43.false c.if-s-next-gt57.false,
+        λ ds d e small. zone_before _ _ _ _ _ k.if-s-lt16.false k.if-s-at.false k.if-s-at-ne46.false k.in_ok-nanosecond.ensures.0 k.in_ok-nanosecond.ensures.1
+            (elim k.if-sign-ne43.branch [ then-sign-ne43+else-sign-ne45 w ↦ inr w.if-sign-ne45.false | else-sign-ne43 w ↦ inl w.if-sign-ne43.false ]) k.in_ok-hours.ensures.1 k.if-hours-gt23.false k.if-s-at-ne58.false k.in_ok-minutes.ensures.1 k.if-minutes-gt59.false d e small c.if-s-end-ne32.false c.if-s-next.false c.if-s-next-lt43.false c.if-s-next-gt57.false,
       ),
     )

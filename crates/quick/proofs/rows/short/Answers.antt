@@ -1,9 +1,10 @@
 -- `short` finds one digit or two, with no digit behind them. Assumes nothing.
-use Rattle.quick.proofs.DigitRows.{rows}
+use native.Mathlib.Omega.{arith}
+use Rattle.quick.proofs.DigitRows.{one_alone, two_alone}
 use Rattle.quick.proofs.rows.short.Goals as goal
 
-pub returns-then-b-gt9 : goal.returns-then-b-gt9
-returns-then-b-gt9 c = search rows
+pub returns-in_default : goal.returns-in_default
+returns-in_default c = one_alone _ _ (omega arith) (omega arith) c.in_ok-a.ensures c.in_default.ensures
 
-pub returns-then-c-gt9 : goal.returns-then-c-gt9
-returns-then-c-gt9 c = search rows
+pub returns-in-None : goal.returns-in-None
+returns-in-None c = two_alone _ _ (omega arith) (omega arith) c.in_ok-a.ensures c.in-Some.ensures c.in-None.ensures

@@ -1,6 +1,6 @@
 -- `two` is the value of two digits, one behind the other. Assumes nothing.
-use Rattle.quick.proofs.DigitRows.{rows}
+use Rattle.quick.proofs.DigitRows.{two_digits}
 use Rattle.quick.proofs.rows.two.Goals as goal
 
 pub returns : goal.returns
-returns c = search rows
+returns c = two_digits _ _ c.requires c.in_ok-a.ensures c.in_ok-b.ensures

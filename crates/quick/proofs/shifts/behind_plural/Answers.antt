@@ -1,4 +1,4 @@
--- `quick::shifts::behind_plural` meets its contract: behind the place stands an `s` or nothing. Assumes nothing.
+-- Behind the place stands an `s` or nothing. Assumes nothing.
 use Rattle.quick.proofs.ShiftForms.{plural_there}
 use Rattle.quick.proofs.shifts.behind_plural.Goals as goal
 
