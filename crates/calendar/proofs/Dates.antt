@@ -11,11 +11,11 @@ use Rattle.calendar.specs.Calendar.{month_days, days_before_year, days_of_months
 use Rattle.calendar.proofs.Counting.{month_bounds, months_none, years_none, months_le, years_le, months_of_year, months_step, year_step}
 
 -- the day number of a date
-abbrev pub day_of : Civil → ℕ
+abbrev pub day_of : Civil ℕ → ℕ
 day_of t = day_number t.year t.month t.day
 
 -- ---- every day of the count is a date, and its day number is its place in the count
-valid_next : (t : Civil) → Valid t → Valid (next_day t)
+valid_next : (t : Civil ℕ) → Valid t → Valid (next_day t)
 unfolding next_day
 valid_next t v = day (ltb t.day (month_days t.year t.month)) refl (ltb t.month 12) refl
   where
@@ -37,7 +37,7 @@ valid_next t v = day (ltb t.day (month_days t.year t.month)) refl (ltb t.month 1
           day_high = omega (arith, month_bounds (t.year + 1) 1 (omega arith) (omega arith));
         }
 
-pub number_next : (t : Civil) → Valid t → day_of (next_day t) ≡ suc (day_of t)
+pub number_next : (t : Civil ℕ) → Valid t → day_of (next_day t) ≡ suc (day_of t)
 unfolding next_day day_number
 number_next t v = day (ltb t.day (month_days t.year t.month)) refl (ltb t.month 12) refl
   where
@@ -74,7 +74,7 @@ place zero =
 place (suc n) = let w = place n in (valid_next (civil n) w.0, number_next (civil n) w.0 ∙ ap suc w.1)
 
 -- ---- two dates of one day number are one date
-in_year : (t : Civil) → Valid t → day_of t < days_before_year (t.year + 1)
+in_year : (t : Civil ℕ) → Valid t → day_of t < days_before_year (t.year + 1)
 unfolding day_number
 in_year t v =
     omega (
@@ -87,7 +87,7 @@ in_year t v =
       v.day_low,
     )
 
-year_le : (s t : Civil) → Valid s → Valid t → day_of s ≡ day_of t → s.year ≤ t.year
+year_le : (s t : Civil ℕ) → Valid s → Valid t → day_of s ≡ day_of t → s.year ≤ t.year
 unfolding day_number
 year_le s t v w e = by (ltb t.year s.year) refl
   where
@@ -98,7 +98,7 @@ year_le s t v w e = by (ltb t.year s.year) refl
         clash h = omega (arith, in_year t w)
     by false p = ltb-false t.year s.year p
 
-year_eq : (s t : Civil) → Valid s → Valid t → day_of s ≡ day_of t → s.year ≡ t.year
+year_eq : (s t : Civil ℕ) → Valid s → Valid t → day_of s ≡ day_of t → s.year ≡ t.year
 year_eq s t v w e = le_antisymm (year_le s t v w e) (year_le t s w v (sym e))
 
 -- of one year
@@ -123,14 +123,14 @@ same_year y m d m' d' v w e =
     path_j (λ (k : ℕ) (r : m ≡ k). Valid (ymd y k d') → day_number y m d ≡ day_number y k d' → ymd y m d ≡ ymd y k d')
     (λ w' e'. ap (ymd y m) (same_month y m d d' v w' e')) q w e
 
-pub unique : (s t : Civil) → Valid s → Valid t → day_of s ≡ day_of t → s ≡ t
+pub unique : (s t : Civil ℕ) → Valid s → Valid t → day_of s ≡ day_of t → s ≡ t
 unique s t v w e =
     path_j (λ (k : ℕ) (r : s.year ≡ k). Valid (ymd k t.month t.day) → day_number s.year s.month s.day ≡ day_number k t.month t.day → ymd s.year s.month s.day ≡ ymd k t.month t.day)
     (λ w' e'. same_year s.year s.month s.day t.month t.day v w' e') (year_eq s t v w e) w e
 
 -- the date of a day number is the one date that counts to it
-pub back : (t : Civil) → Valid t → civil (day_of t) ≡ t
+pub back : (t : Civil ℕ) → Valid t → civil (day_of t) ≡ t
 back t v = let w = place (day_of t) in unique (civil (day_of t)) t w.0 v w.1
 
-pub the_date : (t : Civil) (n : ℕ) → Valid t → day_of t ≡ n → t ≡ civil n
+pub the_date : (t : Civil ℕ) (n : ℕ) → Valid t → day_of t ≡ n → t ≡ civil n
 the_date t n v e = sym (back t v) ∙ ap civil e

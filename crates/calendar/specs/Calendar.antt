@@ -33,23 +33,23 @@ unfoldable pub day_number : ℕ → ℕ → ℕ → ℕ
 day_number y m d = days_before_year y + days_of_months y (m - 1) + (d - 1)
 
 -- a date of the calendar
-pub record Valid (t : Civil) : Type 0 where
+pub record Valid (t : Civil ℕ) : Type 0 where
   pub month_low : 1 ≤ t.month
   pub month_high : t.month ≤ 12
   pub day_low : 1 ≤ t.day
   pub day_high : t.day ≤ month_days t.year t.month
 
-abbrev pub ymd : ℕ → ℕ → ℕ → Civil
+abbrev pub ymd : ℕ → ℕ → ℕ → Civil ℕ
 ymd y m d = record { year = y; month = m; day = d }
 
 -- the day after: of the same month, or the first of the next month, or of the next year
-unfoldable pub next_day : Civil → Civil
+unfoldable pub next_day : Civil ℕ → Civil ℕ
 next_day t =
     cond (ltb t.day (month_days t.year t.month)) (ymd t.year t.month (t.day + 1))
     (cond (ltb t.month 12) (ymd t.year (t.month + 1) 1) (ymd (t.year + 1) 1 1))
 
 -- the date n days after 0000-01-01
-unfoldable pub civil : ℕ → Civil
+unfoldable pub civil : ℕ → Civil ℕ
 civil zero = ymd 0 1 1
 civil (suc n) = next_day (civil n)
 

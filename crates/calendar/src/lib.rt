@@ -23,7 +23,7 @@ pub fn days_in_month(year: u32, month: u8) -> u8
     if month > 12 {
         return 0;
     }
-    let i = (month - 1) as usize;
+    let i = usize::from(month - 1);
     MONTH_DAYS[i] + ((month == 2) & is_leap_year(year)) as u8
 }
 
@@ -36,16 +36,16 @@ fn days_before_year(year: u64) -> u64
     365 * year + (year + 3) / 4 - centuries + (centuries + 3) / 4
 }
 
-// A date whose year may be any.
+// A date, with its year in whatever type holds it.
 #[derive(Clone, Copy)]
-pub struct Civil {
-    pub year: u64,
+pub struct Civil<Y> {
+    pub year: Y,
     pub month: u8,
     pub day: u8,
 }
 
 // The date of a day number: the block of 400 years that holds it, the year in the block, the month in the year.
-pub fn civil_from_days(days: u64) -> Civil
+pub fn civil_from_days(days: u64) -> Civil<u64>
     ensures { result ≡ civil days }
 {
     let day_of_block = (days % 146097) as u32;
@@ -69,10 +69,11 @@ fn year_in_block(day: u32) -> u32
     year + (days_before_year(year as u64 + 1) <= day as u64) as u32
 }
 
+// A month and a day of it, whether or not it has that day.
 #[derive(Clone, Copy)]
-struct MonthDay {
-    month: u8,
-    day: u8,
+pub struct MonthDay {
+    pub month: u8,
+    pub day: u8,
 }
 
 // The month and the day of the month of a day of a year. With two days more for February, or one in a leap year, the months

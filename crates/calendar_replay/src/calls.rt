@@ -1,38 +1,30 @@
 // A call, made. The functions for hosts have their names without `seqtullo_`, the others those of the crates `extended` and `moments`.
 use crate::arguments::Arguments;
-use crate::replies;
+use crate::replies::Reply;
 use extended::{DateParts, ExtendedDateTime, Refusal, TimeParts};
 
-// The reply to a line without a known name: a number that no answer has.
-pub const UNKNOWN: u32 = 99;
-
-// Makes a call and writes its reply. A record takes the first eight arguments.
-pub fn answer(name: &str, a: &Arguments) {
+// Makes a call. A record takes the first eight arguments.
+pub fn answer(name: &str, a: &Arguments) -> Reply {
     let r = record(a);
     match name {
-        "is_leap_year" => replies::print_number(u32::from(extended::is_leap_year(a.at(0)))),
-        "days_in_month" => replies::print_number(u32::from(extended::days_in_month(
-            a.at(0),
-            a.at(1),
-        ))),
-        "from_unix_seconds" => {
-            replies::print_made(moments::from_unix_seconds(a.at(0), a.at(1), a.at(2)))
-        }
-        "unix_seconds" => replies::print_count(moments::unix_seconds(r)),
-        "weekday" => replies::print_count(moments::weekday_monday0(r)),
-        "weekday_sunday0" => replies::print_count(moments::weekday_sunday0(r)),
-        "day_of_year" => replies::print_count(moments::day_of_year(r)),
-        "add_days" => replies::print_made(sums::checked_add_days(r, a.at(8))),
-        "add_hours" => replies::print_made(sums::checked_add_hours(r, a.at(8))),
-        "add_minutes" => replies::print_made(sums::checked_add_minutes(r, a.at(8))),
-        "add_seconds" => { replies::print_made(moments::checked_add_seconds(r, a.at(8), a.at(9))) }
-        "add_years" => replies::print_made(sums::checked_add_years(r, a.at(8))),
-        "add_months" => replies::print_made(sums::checked_add_months(r, a.at(8))),
-        "with_offset" => replies::print_made(r.with_offset(a.at(8))),
-        "with_date" => replies::print_made(r.with_date(a.at(8), a.at(9), a.at(10))),
-        "with_time" => { replies::print_made(r.with_time(a.at(8), a.at(9), a.at(10), a.at(11))) }
-        "new" => replies::print_made(new(r)),
-        _ => replies::print_number(UNKNOWN),
+        "is_leap_year" => Reply::Number(u32::from(extended::is_leap_year(a.at(0)))),
+        "days_in_month" => Reply::Number(u32::from(extended::days_in_month(a.at(0), a.at(1)))),
+        "from_unix_seconds" => Reply::Made(moments::from_unix_seconds(a.at(0), a.at(1), a.at(2))),
+        "unix_seconds" => Reply::Count(moments::unix_seconds(r)),
+        "weekday" => Reply::Count(moments::weekday_monday0(r).map(i64::from)),
+        "weekday_sunday0" => Reply::Count(moments::weekday_sunday0(r).map(i64::from)),
+        "day_of_year" => Reply::Count(moments::day_of_year(r).map(i64::from)),
+        "add_days" => Reply::Made(sums::checked_add_days(r, a.at(8))),
+        "add_hours" => Reply::Made(sums::checked_add_hours(r, a.at(8))),
+        "add_minutes" => Reply::Made(sums::checked_add_minutes(r, a.at(8))),
+        "add_seconds" => Reply::Made(moments::checked_add_seconds(r, a.at(8), a.at(9))),
+        "add_years" => Reply::Made(sums::checked_add_years(r, a.at(8))),
+        "add_months" => Reply::Made(sums::checked_add_months(r, a.at(8))),
+        "with_offset" => Reply::Made(r.with_offset(a.at(8))),
+        "with_date" => Reply::Made(r.with_date(a.at(8), a.at(9), a.at(10))),
+        "with_time" => Reply::Made(r.with_time(a.at(8), a.at(9), a.at(10), a.at(11))),
+        "new" => Reply::Made(new(r)),
+        _ => Reply::Unknown,
     }
 }
 

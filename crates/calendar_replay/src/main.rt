@@ -9,11 +9,12 @@
 
 mod arguments;
 mod calls;
-mod numbers;
 mod replies;
 
 use arguments::Arguments;
 use arrayvec::ArrayVec;
+use replies::Reply;
+use std::io::{Stdout, Write};
 
 // A function's name, and its arguments.
 fn call_of(line: &ArrayVec<u8, 4096>) -> Option<(&str, Arguments)> {
@@ -34,26 +35,25 @@ fn call_of(line: &ArrayVec<u8, 4096>) -> Option<(&str, Arguments)> {
     Some((name, arguments))
 }
 
-fn answer(line: &ArrayVec<u8, 4096>) {
+fn reply(line: &ArrayVec<u8, 4096>) -> Reply {
     match call_of(line) {
         Some((name, arguments)) => calls::answer(name, &arguments),
-        None => replies::print_number(calls::UNKNOWN),
+        None => Reply::Unknown,
     }
-    io::write_all(1, b"\n");
 }
 
-// Nothing says that the input ends, so the turns are counted up to a number that no run reaches.
-fn main() {
+// A write that fails ends the program. Nothing says that the input ends, so the turns are counted up to a number that no run reaches.
+fn replay(out: &mut Stdout) -> std::io::Result<()> {
     let mut chunk = io::buffer();
     let mut line = ArrayVec::new();
     for _ in 0..u64::MAX {
         let n = io::read_full(0, &mut chunk);
         if n == 0 {
-            return;
+            return Ok(());
         }
         for byte in &chunk[..n] {
             if *byte == b'\n' {
-                answer(&line);
+                writeln!(out, "{}", reply(&line))?;
                 line.clear();
             } else {
                 // A line that has no room left stays full, and is answered so.
@@ -61,4 +61,9 @@ fn main() {
             }
         }
     }
+    Ok(())
+}
+
+fn main(rt: HostRuntime) {
+    let _ = replay(&mut rt.stdout());
 }

@@ -1,45 +1,35 @@
 // Replies, written without the line's end: 0 and what the call gives, or the number of its refusal alone.
-use crate::numbers;
 use extended::{ExtendedDateTime, Refusal};
+use std::fmt;
 
-// A call that gives a number.
-pub fn print_count<T: Into<i64>>(reply: Result<T, Refusal>) {
-    match reply {
-        Ok(count) => print_accepted(count.into()),
-        Err(refusal) => print_number(refusal.into()),
+#[derive(Clone, Copy)]
+pub enum Reply {
+    // A line that is no call.
+    Unknown,
+    // A number alone.
+    Number(u32),
+    // A call that gives a number.
+    Count(Result<i64, Refusal>),
+    // A call that gives a record.
+    Made(Result<ExtendedDateTime, Refusal>),
+}
+
+impl fmt::Display for Reply {
+    fn fmt<W: fmt::Write>(&self, f: &mut fmt::Formatter<W>) -> fmt::Result {
+        match *self {
+            // A number that no answer has.
+            Reply::Unknown => f.write_str("99"),
+            Reply::Number(number) => write!(f, "{number}"),
+            Reply::Count(Ok(count)) => write!(f, "0 {count}"),
+            // A record has its eight numbers in order.
+            Reply::Made(Ok(r)) => write!(
+                f,
+                "0 {} {} {} {} {} {} {} {}",
+                r.year, r.month, r.day, r.hour, r.minute, r.second, r.nanosecond, r.offset_seconds
+            ),
+            Reply::Count(Err(refusal)) | Reply::Made(Err(refusal)) => {
+                write!(f, "{}", u32::from(refusal))
+            }
+        }
     }
-}
-
-// A call that gives a record.
-pub fn print_made(made: Result<ExtendedDateTime, Refusal>) {
-    match made {
-        Ok(record) => print_record(record),
-        Err(refusal) => print_number(refusal.into()),
-    }
-}
-
-fn print_accepted(value: i64) {
-    io::write_all(1, b"0 ");
-    numbers::print(value);
-}
-
-pub fn print_number(number: u32) {
-    io::print_decimal(1, number as u64);
-}
-
-// A record has its eight numbers in order.
-fn print_record(r: ExtendedDateTime) {
-    print_accepted(r.year.into());
-    print_next(r.month.into());
-    print_next(r.day.into());
-    print_next(r.hour.into());
-    print_next(r.minute.into());
-    print_next(r.second.into());
-    print_next(r.nanosecond.into());
-    print_next(r.offset_seconds.into());
-}
-
-fn print_next(value: i64) {
-    io::write_all(1, b" ");
-    numbers::print(value);
 }

@@ -34,10 +34,10 @@ clock_of_day : (d h m s : ℕ) → h ≤ 23 → m ≤ 59 → s ≤ 59 →
 clock_of_day d h m s a b c = (omega arith, omega arith, omega arith, omega arith)
 
 -- a record by its date and its parts of the day
-put : Civil → ℕ → ℕ → ℕ → ℕ → ℤ → ExtendedDateTime
+put : Civil ℕ → ℕ → ℕ → ℕ → ℕ → ℤ → ExtendedDateTime
 put t h m s n o = make (date t.year t.month t.day) (time h m s n) o
 
-put_same : (t t' : Civil) (h h' m m' s s' n : ℕ) (o : ℤ) → t ≡ t' → h ≡ h' → m ≡ m' → s ≡ s' → put t h m s n o ≡ put t' h' m' s' n o
+put_same : (t t' : Civil ℕ) (h h' m m' s s' n : ℕ) (o : ℤ) → t ≡ t' → h ≡ h' → m ≡ m' → s ≡ s' → put t h m s n o ≡ put t' h' m' s' n o
 put_same t t' h h' m m' s s' n o p q u v = cc
 
 pub record_back : (r : ExtendedDateTime) → Accepted r → clock_record (clock_seconds r) r.nanosecond r.offset_seconds ≡ r

@@ -10,27 +10,27 @@ use borrow.Author.Tests.{leb-true, le-leb}
 use Rattle.extended.specs.Outcome.{accepted, check, ◌>>◌}
 use Rattle.calendar.specs.Calendar.{month_days, Valid, ymd}
 use Rattle.extended.specs.Extended.{date_of, time_of, test_date, test_time, test_offset, test, test_year, clock_seconds}
-use Rattle.extended.specs.declared.DateParts.{DateParts}
+use Rattle.calendar.specs.declared.Civil.{Civil}
 use Rattle.extended.specs.declared.TimeParts.{TimeParts}
 use Rattle.extended.specs.declared.ExtendedDateTime.{ExtendedDateTime}
 use Rattle.calendar.proofs.Counting.{and_left, and_right, month_bound, day_bound}
 use Rattle.extended.proofs.Outcomes.{Proper, check_proper, then_proper, check_true, first_passed}
 
 -- ---- the tests by name
-abbrev year_ok : DateParts → Bool
+abbrev year_ok : Civil ℕ → Bool
 year_ok d = leb d.year 2147485547
 
-abbrev month_ok : DateParts → Bool
+abbrev month_ok : Civil ℕ → Bool
 month_ok d = leb 1 d.month && leb d.month 12
 
-abbrev day_ok : DateParts → Bool
+abbrev day_ok : Civil ℕ → Bool
 day_ok d = leb 1 d.day && leb d.day (month_days d.year d.month)
 
 abbrev offset_ok : ℤ → Bool
 offset_ok o = le_z (negsuc 86399) o && le_z o (pos 86400)
 
 -- ---- no test has 0 for its refusal
-pub date_proper : (d : DateParts) → Proper (test_date d)
+pub date_proper : (d : Civil ℕ) → Proper (test_date d)
 unfolding test_date
 date_proper d =
     then_proper (check (year_ok d) 9) _ (check_proper (year_ok d) 8)
@@ -73,7 +73,7 @@ pub record Accepted (r : ExtendedDateTime) : Type 0 where
 both : (a b c d : ℕ) → (leb a b && leb c d) ≡ true → (a ≤ b) × (c ≤ d)
 both a b c d e = (leb-true a b (and_left (leb a b) (leb c d) e), leb-true c d (and_right (leb a b) (leb c d) e))
 
-date_facts : (d : DateParts) → test_date d ≡ accepted tt → Valid (ymd d.year d.month d.day) × (d.year ≤ 2147485547)
+date_facts : (d : Civil ℕ) → test_date d ≡ accepted tt → Valid (ymd d.year d.month d.day) × (d.year ≤ 2147485547)
 unfolding test_date
 date_facts d e =
     let a = first_passed (check (year_ok d) 9) (check (month_ok d) 11 >> check (day_ok d) 12) e in
@@ -112,7 +112,7 @@ facts r e =
     }
 
 -- and back
-date_test : (d : DateParts) → Valid (ymd d.year d.month d.day) → d.year ≤ 2147485547 → test_date d ≡ accepted tt
+date_test : (d : Civil ℕ) → Valid (ymd d.year d.month d.day) → d.year ≤ 2147485547 → test_date d ≡ accepted tt
 unfolding test_date
 date_test d v h =
     simp (le-leb d.year 2147485547 h, le-leb 1 d.month v.month_low, le-leb d.month 12 v.month_high, le-leb 1 d.day v.day_low, le-leb d.day (month_days d.year d.month) v.day_high)

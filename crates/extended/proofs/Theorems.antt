@@ -22,7 +22,7 @@ use Rattle.extended.proofs.Adding.{seconds_to, seconds_from, units_to, units_fro
 pub some_date : (n : ℕ) → Valid (civil n) × (day_of (civil n) ≡ n)
 some_date = place
 
-pub one_date : (s t : Civil) → Valid s → Valid t → day_of s ≡ day_of t → s ≡ t
+pub one_date : (s t : Civil ℕ) → Valid s → Valid t → day_of s ≡ day_of t → s ≡ t
 one_date = unique
 
 -- the accepted record of a moment, a nanosecond and an offset
@@ -143,6 +143,6 @@ unfolding monday_weekday sunday_weekday day_number days_before_year year_days le
 epoch_thursday = (weekday_closed 5 (day_number 1970 1 1) (omega arith), weekday_closed 6 (day_number 1970 1 1) (omega arith))
 
 -- each day's weekday is the next one of the day before
-pub next_weekday_lem : (t : Civil) → Valid t → (monday_weekday (day_of (next_day t)) ≡ next_weekday (monday_weekday (day_of t))) × (sunday_weekday (day_of (next_day t)) ≡ next_weekday (sunday_weekday (day_of t)))
+pub next_weekday_lem : (t : Civil ℕ) → Valid t → (monday_weekday (day_of (next_day t)) ≡ next_weekday (monday_weekday (day_of t))) × (sunday_weekday (day_of (next_day t)) ≡ next_weekday (sunday_weekday (day_of t)))
 unfolding monday_weekday sunday_weekday weekday
 next_weekday_lem t v = (ap monday_weekday (number_next t v), ap sunday_weekday (number_next t v))

@@ -5,7 +5,7 @@ use Rattle.integers.specs.Integers.{sum, product, natural_of}
 use Rattle.extended.specs.Outcome.{Outcome, accepted, refused, check, ◌>>=◌, ◌>>◌}
 use Rattle.calendar.specs.Calendar.{month_days, days_of_months, day_number, civil}
 use Rattle.extended.specs.Calendar.{monday_weekday, sunday_weekday}
-use Rattle.extended.specs.declared.DateParts.{DateParts}
+use Rattle.calendar.specs.declared.Civil.{Civil}
 use Rattle.extended.specs.declared.TimeParts.{TimeParts}
 use Rattle.extended.specs.declared.ExtendedDateTime.{ExtendedDateTime}
 
@@ -22,17 +22,17 @@ from_zero None = refused 10
 
 -- ---- records
 -- the one place where a record is put together
-unfoldable pub make : DateParts → TimeParts → ℤ → ExtendedDateTime
+unfoldable pub make : Civil ℕ → TimeParts → ℤ → ExtendedDateTime
 make d t o =
     record { year = d.year; month = d.month; day = d.day; hour = t.hour; minute = t.minute; second = t.second; nanosecond = t.nanosecond; offset_seconds = o }
 
-abbrev pub date : ℕ → ℕ → ℕ → DateParts
+abbrev pub date : ℕ → ℕ → ℕ → Civil ℕ
 date y m d = record { year = y; month = m; day = d }
 
 abbrev pub time : ℕ → ℕ → ℕ → ℕ → TimeParts
 time h m s n = record { hour = h; minute = m; second = s; nanosecond = n }
 
-abbrev pub date_of : ExtendedDateTime → DateParts
+abbrev pub date_of : ExtendedDateTime → Civil ℕ
 date_of r = date r.year r.month r.day
 
 abbrev pub time_of : ExtendedDateTime → TimeParts
@@ -47,7 +47,7 @@ abbrev pub last_year : ℕ
 last_year = 2147485547
 
 -- the tests of `new`, in their order
-unfoldable pub test_date : DateParts → Outcome (Unit {0})
+unfoldable pub test_date : Civil ℕ → Outcome (Unit {0})
 test_date d = do
   check (leb d.year last_year) 9
   check (leb 1 d.month && leb d.month 12) 11
@@ -117,7 +117,7 @@ from_unix_seconds u n o = do
   from_clock clock n o
 
 -- ---- records with another date, time or offset
-unfoldable pub with_date : ExtendedDateTime → DateParts → Outcome ExtendedDateTime
+unfoldable pub with_date : ExtendedDateTime → Civil ℕ → Outcome ExtendedDateTime
 with_date r d = do
   test r
   accept (make d (time_of r) r.offset_seconds)

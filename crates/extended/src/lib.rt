@@ -11,14 +11,14 @@ ghost use Rattle.extended.specs.Extended.{make, blank, date, time, date_of, time
 
 mod refusals;
 
-pub use calendar::{days_in_month, is_leap_year};
+pub use calendar::{Civil, MonthDay, days_in_month, is_leap_year};
 pub use refusals::{PlacedRefusal, Refusal};
 
 // The largest year that is accepted.
 pub const GNU_MAX_YEAR: u32 = 2147485547;
 
 #[repr(C)]
-#[derive(Clone, Copy)]
+#[derive(Clone, Copy, Default)]
 pub struct ExtendedDateTime {
     pub year: u32,
     pub month: u8,
@@ -31,12 +31,7 @@ pub struct ExtendedDateTime {
     pub offset_seconds: i32,
 }
 
-#[derive(Clone, Copy)]
-pub struct DateParts {
-    pub year: u32,
-    pub month: u8,
-    pub day: u8,
-}
+pub type DateParts = Civil<u32>;
 
 #[derive(Clone, Copy)]
 pub struct TimeParts {
@@ -61,21 +56,11 @@ impl ExtendedDateTime {
     }
 
     // Eight zeros: the record of a refusal.
+    #[tactic(auto, unfolding(crate::specs::Extended::make))]
     pub fn blank() -> ExtendedDateTime
         ensures { result ≡ blank }
     {
-        let date = DateParts {
-            year: 0,
-            month: 0,
-            day: 0,
-        };
-        let time = TimeParts {
-            hour: 0,
-            minute: 0,
-            second: 0,
-            nanosecond: 0,
-        };
-        from_parts(date, time, 0)
+        ExtendedDateTime::default()
     }
 
     #[tactic(auto, unfolding(crate::specs::Extended::with_date))]
@@ -166,7 +151,7 @@ pub fn from_parts(date: DateParts, time: TimeParts, offset_seconds: i32) -> Exte
         minute: time.minute,
         second: time.second,
         nanosecond: time.nanosecond,
-        offset_seconds: offset_seconds,
+        offset_seconds,
     }
 }
 
@@ -237,7 +222,7 @@ pub fn test_year(year: u64) -> Result<(), Refusal>
     if year > 4294967295 {
         return Err(Refusal::Under);
     }
-    if year > 2147485547 {
+    if year > u64::from(GNU_MAX_YEAR) {
         return Err(Refusal::Over);
     }
     Ok(())

@@ -4,7 +4,6 @@ use Prim.Native.Nat.{ℕ, zero, suc, ◌+◌, ◌-◌}
 use mathlib.Core.Path.{◌≡◌, refl, sym, ap, ap₂, ◌∙◌}
 use mathlib.Core.Bool.{Bool, true, false}
 use native.Mathlib.Omega.{arith}
-use native.Mathlib.Nat.{zero-add}
 use lib.Dec.{ltb}
 use lib.IntN.{ℤ, pos, negsuc, neg_ℤ, sub_ℕ, ◌+ℤ◌, ◌-ℤ◌}
 use borrow.Author.Tests.{ltb-true, ltb-false, lt-ltb, le-ltb}
@@ -15,11 +14,6 @@ untrue p = let z : ◌≡◌ {A = ℕ} 0 1 = cc in absurd (clash z)
   where
     clash : ◌≡◌ {A = ℕ} 0 1 → ⊥
     clash z = omega arith
-
--- -1 - n
-pub below_zero : (n : ℕ) → negsuc 0 -ℤ pos n ≡ negsuc n
-below_zero zero = refl
-below_zero (suc n) = ap (λ (m : ℕ). negsuc (suc m)) (zero-add n)
 
 pub is_pos : (a b n : ℕ) → a ≡ b + n → sub_ℕ a b ≡ pos n
 is_pos a b n e =
@@ -45,34 +39,13 @@ shape a b = by (ltb a b) refl
     by true p = let e : b ≡ a + suc (b - suc a) = omega (arith, ltb-true) in down (b - suc a) e (is_neg a b _ e)
     by false p = let e : a ≡ b + (a - b) = omega (arith, ltb-false) in up (a - b) e (is_pos a b _ e)
 
--- two differences are one number exactly where they agree crosswise
+-- two differences are one number where they agree crosswise
 pub diff_eq : (a b c d : ℕ) → a + d ≡ c + b → sub_ℕ a b ≡ sub_ℕ c d
 diff_eq a b c d h = by (shape c d)
   where
     by : Shape c d → sub_ℕ a b ≡ sub_ℕ c d
     by (up n e q) = is_pos a b n (omega arith) ∙ sym q
     by (down n e q) = is_neg a b n (omega arith) ∙ sym q
-
-pub diff_cross : (a b c d : ℕ) → sub_ℕ a b ≡ sub_ℕ c d → a + d ≡ c + b
-diff_cross a b c d h = by (shape a b) (shape c d)
-  where
-    by : Shape a b → Shape c d → a + d ≡ c + b
-    by (up n e q) (up m f r) = let g : n ≡ m = same n m (sym q ∙ h ∙ r) in omega arith
-      where
-        same : (n m : ℕ) → pos n ≡ pos m → n ≡ m
-        same n m p = cc
-    by (up n e q) (down m f r) = absurd (no n m (sym q ∙ h ∙ r))
-      where
-        no : (n m : ℕ) → pos n ≡ negsuc m → ⊥
-        no n m p = let z : ◌≡◌ {A = ℕ} 0 1 = cc in omega arith
-    by (down n e q) (up m f r) = absurd (no n m (sym q ∙ h ∙ r))
-      where
-        no : (n m : ℕ) → negsuc n ≡ pos m → ⊥
-        no n m p = let z : ◌≡◌ {A = ℕ} 0 1 = cc in omega arith
-    by (down n e q) (down m f r) = let g : n ≡ m = same n m (sym q ∙ h ∙ r) in omega arith
-      where
-        same : (n m : ℕ) → negsuc n ≡ negsuc m → n ≡ m
-        same n m p = cc
 
 -- sums and differences of differences
 pub diff_add : (a b c d : ℕ) → sub_ℕ a b +ℤ sub_ℕ c d ≡ sub_ℕ (a + c) (b + d)

@@ -1,21 +1,18 @@
 -- The numbers of an i64 by `raised`: their order, sums and differences are those of naturals, which `omega` decides.
 -- Assumes nothing.
 use Prim.Native.Nat.{ℕ, suc, ◌+◌, ◌-◌, ◌<◌, ◌≤◌}
-use mathlib.Core.Path.{◌≡◌, refl, sym, ap, ap₂, ◌∙◌}
-use mathlib.Core.Bool.{Bool, true, false}
+use mathlib.Core.Path.{◌≡◌, refl, sym, ap₂, ◌∙◌}
+use mathlib.Core.Bool.{Bool, true, false, not}
 use native.Mathlib.Omega.{arith}
 use lib.IntN.{ℤ, pos, negsuc, sub_ℕ, ◌-ℤ◌}
-use lib.Signed.{mag}
+use lib.Dec.{ltb, leb}
+use lib.Signed.{mag, lt_z, le_z}
 use mir.Syntax.{w64}
 use mir.Val.{SFits}
-use borrow.Author.Tests.{ltb-true, lt-ltb}
-use borrow.Author.Rules.{rules}
+use borrow.Author.Tests.{ltb-true, ltb-false, lt-ltb, lt-leb, le-leb}
 use Rattle.integers.proofs.Differences.{is_pos, is_neg, Shape, up, down, shape, diff_eq, diff_sub}
-use Rattle.integers.specs.Integers.{raised, in_i64, fits_if, natural_of}
-use Rattle.std.specs.Prelude.{Option, Some, None, SomeIff, Result, Ok, Err, OkIff, nat_abs}
-use Rattle.std.specs.Result.{result_ok}
-use Rattle.std.specs.Int.{FitsUnsignedBits, FitsUnsigned}
-use lib.Signed.{◌≤ℤ◌}
+use Rattle.integers.specs.Integers.{raised, in_i64, in_i32, fits_if}
+use Rattle.std.specs.Prelude.{Some}
 
 -- a number of the range is its raised number less 2^63
 pub as_diff : (x : ℤ) → SFits w64 x → x ≡ sub_ℕ (raised x) 9223372036854775808
@@ -52,36 +49,27 @@ module _ (x y : ℤ) (f : SFits w64 x) (g : SFits w64 y) where
 pub fits_in : (z : ℤ) → mag z < 9223372036854775808 → fits_if (in_i64 z) z ≡ Some z
 fits_in z h = let e : in_i64 z ≡ true = lt-ltb _ _ h in simp e
 
-pub fits_not : (z : ℤ) → in_i64 z ≡ false → fits_if (in_i64 z) z ≡ None
-fits_not z h = simp h
+-- ---- an i32 by two tests of the order, which std makes
 
--- what std's checked operations answer, by their contracts
-pub checked_is : (o : Option ℤ) (z : ℤ) → SomeIff o (SFits w64 z) z → o ≡ fits_if (in_i64 z) z
-checked_is (Some x) z p = ap Some p.1 ∙ sym (fits_in z p.0.sfits)
-checked_is None z n = by (in_i64 z) refl
+-- one order by the other
+le_by_lt : (a b : ℕ) → leb a b ≡ not (ltb b a)
+le_by_lt a b = by (ltb b a) refl
   where
-    by : (t : Bool) → in_i64 z ≡ t → None ≡ fits_if (in_i64 z) z
-    by true e = absurd (n (record { sfits = ltb-true _ _ e }))
-    by false e = sym (fits_not z e)
+    by : (t : Bool) → ltb b a ≡ t → leb a b ≡ not t
+    by true p = lt-leb a b (ltb-true b a p)
+    by false p = le-leb a b (ltb-false b a p)
 
--- what std's conversion to a number without a sign answers, by its contract
-pub natural_is : {E : Type 0} (r : Result ℕ E) (z : ℤ) → mag z < 18446744073709551616 → OkIff r (FitsUnsignedBits 64 z) (nat_abs z) → result_ok r ≡ natural_of z
-unfolding natural_of
-natural_is (Ok n) (pos m) f p = ap Some p.1
-natural_is (Ok n) (negsuc m) f p = absurd p.0
-natural_is (Err e) (pos m) f p = absurd (p f)
-natural_is (Err e) (negsuc m) f p = refl
+le_z_by_lt_z : (a b : ℤ) → le_z a b ≡ not (lt_z b a)
+le_z_by_lt_z (pos a) (pos b) = le_by_lt a b
+le_z_by_lt_z (pos a) (negsuc b) = refl
+le_z_by_lt_z (negsuc a) (pos b) = refl
+le_z_by_lt_z (negsuc a) (negsuc b) = le_by_lt b a
 
--- the same for a number of more bits
-pub not_natural : (z : ℤ) → mag z < 18446744073709551616 → ¬ FitsUnsigned w64 z → natural_of z ≡ None
-unfolding natural_of
-not_natural (pos n) f p = absurd (p (search rules))
-not_natural (negsuc n) f p = refl
+pub under_i32 : (z : ℤ) → lt_z z (negsuc 2147483647) ≡ true → false ≡ in_i32 z
+under_i32 z e = rw (le_z_by_lt_z (negsuc 2147483647) z, e)
 
-pub is_natural : (z : ℤ) → (n : ℕ) → FitsUnsigned w64 z → n ≡ nat_abs z → natural_of z ≡ Some n
-unfolding natural_of
-is_natural (pos m) n p e = ap Some (sym e)
-is_natural (negsuc m) n p e = absurd (clash p.0)
-  where
-    clash : pos 0 ≤ℤ negsuc m → ⊥
-    clash h = omega arith
+pub beyond_i32 : (z : ℤ) → lt_z z (negsuc 2147483647) ≡ false → lt_z (pos 2147483647) z ≡ true → false ≡ in_i32 z
+beyond_i32 z d e = rw (le_z_by_lt_z (negsuc 2147483647) z, le_z_by_lt_z z (pos 2147483647), d, e)
+
+pub inside_i32 : (z : ℤ) → lt_z z (negsuc 2147483647) ≡ false → lt_z (pos 2147483647) z ≡ false → true ≡ in_i32 z
+inside_i32 z d e = rw (le_z_by_lt_z (negsuc 2147483647) z, le_z_by_lt_z z (pos 2147483647), d, e)

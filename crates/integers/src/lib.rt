@@ -5,7 +5,7 @@
 ghost use Rattle.std.specs.Prelude.{◌≡◌, pos};
 ghost use Rattle.integers.specs.Integers.{raised, sum, product, natural_of, in_i32};
 
-// x + 2^63, which is never below 0. Nothing here calls it any more; its promise stays.
+// x + 2^63, which is never below 0. Nothing calls it any more; its promise stays.
 pub fn bias(x: i64) -> u64
     ensures { result ≡ raised x }
 {
@@ -17,35 +17,38 @@ pub fn bias(x: i64) -> u64
     }
 }
 
-// The same number as an i64. It is public, with a promise of its own.
+// The same number as an i64. Nothing calls it any more; its promise stays.
 pub fn widen(x: i32) -> i64
     ensures { result ≡ x }
 {
     i64::from(x)
 }
 
-// a + b.
+// a + b. Nothing calls it any more, as std has `checked_add`; its promise stays.
+#[tactic(auto, unfolding(crate::specs::Integers::sum))]
 pub fn checked_add(a: i64, b: i64) -> Option<i64>
     ensures { result ≡ sum a b }
 {
     a.checked_add(b)
 }
 
-// a × factor.
+// a × factor. Nothing calls it any more, as std has `checked_mul`; its promise stays.
+#[tactic(auto, unfolding(crate::specs::Integers::product))]
 pub fn checked_mul(a: i64, factor: u32) -> Option<i64>
     ensures { result ≡ product a (pos factor) }
 {
     a.checked_mul(i64::from(factor))
 }
 
-// x, where it is not below 0.
+// x, where it is not below 0. Nothing calls it any more, as std has `try_from`; its promise stays.
+#[tactic(auto, unfolding(crate::specs::Integers::natural_of))]
 pub fn to_natural(x: i64) -> Option<u64>
     ensures { result ≡ natural_of x }
 {
     u64::try_from(x).ok()
 }
 
-// Whether an i32 holds x.
+// Whether an i32 holds x. Nothing calls it any more; its promise stays.
 pub fn in_i32(x: i64) -> bool
     ensures { result ≡ in_i32 x }
 {

@@ -13,13 +13,10 @@ ghost use Rattle.extended.specs.Extended.{test, moment, unix_seconds, from_clock
 
 use extended::{DateParts, ExtendedDateTime, Refusal, TimeParts};
 
-// A sum of nanoseconds is no more.
-const MOST_NANOSECONDS: u64 = 4294967295;
-
 // From 0000-01-01 to 1970-01-01.
 const SECONDS_TO_1970: i128 = 62167219200;
 
-#[tactic(auto, unfolding(extended::specs::Extended::from_unix_seconds))]
+#[tactic(auto, unfolding(extended::specs::Extended::from_unix_seconds, integers::specs::Integers::sum, integers::specs::Integers::natural_of))]
 pub fn from_unix_seconds(
     unix_seconds: i64,
     nanosecond: u32,
@@ -31,10 +28,10 @@ pub fn from_unix_seconds(
         return Err(Refusal::Nanosecond);
     }
     extended::test_offset(offset_seconds)?;
-    let local = integers::checked_add(unix_seconds, i64::from(offset_seconds)).ok_or(Refusal::Sum)?;
-    let Ok(clock) = u64::try_from(i128::from(local) + SECONDS_TO_1970) else {
-        return Err(Refusal::Under);
-    };
+    let local = unix_seconds
+        .checked_add(i64::from(offset_seconds))
+        .ok_or(Refusal::Sum)?;
+    let clock = u64::try_from(i128::from(local) + SECONDS_TO_1970).map_err(|_| Refusal::Under)?;
     from_clock(clock, nanosecond, offset_seconds)
 }
 
@@ -47,7 +44,7 @@ pub fn unix_seconds(dt: ExtendedDateTime) -> Result<i64, Refusal>
     Ok(moment(dt))
 }
 
-#[tactic(auto, unfolding(extended::specs::Extended::add_seconds))]
+#[tactic(auto, unfolding(extended::specs::Extended::add_seconds, integers::specs::Integers::sum))]
 pub fn checked_add_seconds(
     dt: ExtendedDateTime,
     delta_seconds: i64,
@@ -56,12 +53,12 @@ pub fn checked_add_seconds(
     ensures { outcome_of result ≡ add_seconds dt delta_seconds delta_nanoseconds }
 {
     dt.test()?;
-    let unix = integers::checked_add(moment(dt), delta_seconds).ok_or(Refusal::Sum)?;
-    let nanosecond = dt.nanosecond as u64 + delta_nanoseconds as u64;
-    if nanosecond > MOST_NANOSECONDS {
-        return Err(Refusal::Sum);
-    }
-    carry(unix, nanosecond as u32, dt.offset_seconds)
+    let unix = moment(dt).checked_add(delta_seconds).ok_or(Refusal::Sum)?;
+    let nanosecond = dt
+        .nanosecond
+        .checked_add(delta_nanoseconds)
+        .ok_or(Refusal::Sum)?;
+    carry(unix, nanosecond, dt.offset_seconds)
 }
 
 #[tactic(auto, unfolding(extended::specs::Extended::day_of_year))]
@@ -135,20 +132,20 @@ fn from_clock(clock: u64, nanosecond: u32, offset_seconds: i32) -> Result<Extend
         hour: (clock % 86400 / 3600) as u8,
         minute: (clock % 3600 / 60) as u8,
         second: (clock % 60) as u8,
-        nanosecond: nanosecond,
+        nanosecond,
     };
     Ok(extended::from_parts(date, time, offset_seconds))
 }
 
 // At most one second is carried out of the nanoseconds.
-#[tactic(auto, unfolding(extended::specs::Extended::carried))]
+#[tactic(auto, unfolding(extended::specs::Extended::carried, integers::specs::Integers::sum))]
 fn carry(unix: i64, nanosecond: u32, offset_seconds: i32) -> Result<ExtendedDateTime, Refusal>
     ensures { outcome_of result ≡ carried unix nanosecond offset_seconds }
 {
     if nanosecond < 1000000000 {
         return from_unix_seconds(unix, nanosecond, offset_seconds);
     }
-    let next = integers::checked_add(unix, 1).ok_or(Refusal::Sum)?;
+    let next = unix.checked_add(1).ok_or(Refusal::Sum)?;
     from_unix_seconds(next, nanosecond - 1000000000, offset_seconds)
 }
 

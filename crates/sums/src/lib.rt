@@ -34,7 +34,7 @@ pub fn checked_add_minutes(dt: ExtendedDateTime, minutes: i64) -> Result<Extende
 }
 
 // `count` units of `worth` seconds each.
-#[tactic(auto, unfolding(extended::specs::Extended::add_units))]
+#[tactic(auto, unfolding(extended::specs::Extended::add_units, integers::specs::Integers::product))]
 fn checked_add_units(
     dt: ExtendedDateTime,
     count: i64,
@@ -43,28 +43,30 @@ fn checked_add_units(
     ensures { outcome_of result ≡ add_units worth dt count }
 {
     dt.test()?;
-    let seconds = integers::checked_mul(count, worth).ok_or(Refusal::Sum)?;
+    let seconds = count.checked_mul(i64::from(worth)).ok_or(Refusal::Sum)?;
     moments::checked_add_seconds(dt, seconds, 0)
 }
 
-#[tactic(auto, unfolding(extended::specs::Extended::add_years))]
+#[tactic(auto, unfolding(extended::specs::Extended::add_years, integers::specs::Integers::sum, integers::specs::Integers::natural_of))]
 pub fn checked_add_years(dt: ExtendedDateTime, years: i32) -> Result<ExtendedDateTime, Refusal>
     ensures { outcome_of result ≡ add_years dt years }
 {
     dt.test()?;
-    let sum = integers::checked_add(i64::from(dt.year), i64::from(years)).ok_or(Refusal::Sum)?;
-    let year = integers::to_natural(sum).ok_or(Refusal::Under)?;
+    let sum = i64::from(dt.year)
+        .checked_add(i64::from(years))
+        .ok_or(Refusal::Sum)?;
+    let year = u64::try_from(sum).map_err(|_| Refusal::Under)?;
     clamped(dt, year, dt.month)
 }
 
-#[tactic(auto, unfolding(extended::specs::Extended::add_months))]
+#[tactic(auto, unfolding(extended::specs::Extended::add_months, integers::specs::Integers::sum, integers::specs::Integers::natural_of))]
 pub fn checked_add_months(dt: ExtendedDateTime, months: i32) -> Result<ExtendedDateTime, Refusal>
     ensures { outcome_of result ≡ add_months dt months }
 {
     dt.test()?;
     let before = months_before(dt.year, dt.month);
-    let sum = integers::checked_add(before, i64::from(months)).ok_or(Refusal::Sum)?;
-    let total = integers::to_natural(sum).ok_or(Refusal::Under)?;
+    let sum = before.checked_add(i64::from(months)).ok_or(Refusal::Sum)?;
+    let total = u64::try_from(sum).map_err(|_| Refusal::Under)?;
     clamped(dt, total / 12, (total % 12 + 1) as u8)
 }
 
@@ -88,5 +90,5 @@ fn clamped(dt: ExtendedDateTime, year: u64, month: u8) -> Result<ExtendedDateTim
         return dt.with_date(year, month, dt.day);
     }
     let next = dt.with_date(year, month, max_day)?;
-    checked_add_days(next, (dt.day - max_day) as i64)
+    checked_add_days(next, i64::from(dt.day - max_day))
 }

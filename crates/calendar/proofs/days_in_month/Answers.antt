@@ -32,4 +32,4 @@ returns-then-month-gt12 c = sym (month_beyond _ _ c.if-month-gt12.true)
 pub returns : goal.returns
 returns c =
     let a = c.args in
-    entry_is a.year a.month c.is_leap_year.result c.is_leap_year.ensures (omega arith)
+    rw c.from-i.ensures (entry_is a.year a.month c.is_leap_year.result c.is_leap_year.ensures (omega arith))
