@@ -4,17 +4,16 @@
 #![tactic(auto)]
 
 ghost use Rattle.std.specs.Prelude.{◌≡◌};
-ghost use Rattle.std.proofs.Math.Seq.{slice};
 ghost use Rattle.primitive.specs.Text.{lowered};
 ghost use Rattle.primitive.specs.Answer.{answer_of};
-ghost use Rattle.primitive.specs.Primitive.{parse_uint};
-ghost use Rattle.dates.specs.Date.{dotted, iso1, iso2, slash_part, us_rest, us, parse_non_iso, year_answer, us_at};
+ghost use Rattle.dates.specs.Date.{dotted, iso1, iso2, slash_part, us_rest, us, parse_non_iso, year_answer};
 
-use dates::date::Date;
+use dates::date::{Date, MonthDay};
 
-// A date without marks has more than four digits; so many make a number the year.
+// A date without marks has more than four digits.
 const FEWEST_DIGITS: usize = 5;
 
+// So many digits make the first number the year.
 const YEAR_DIGITS: usize = 4;
 
 // `2022-11-14`; the combined item begins with it too.
@@ -22,33 +21,26 @@ const YEAR_DIGITS: usize = 4;
 pub fn iso1(s: &[u8], at: usize) -> Option<(Date, usize)>
     ensures { answer_of result ≡ iso1 (lowered s.now) at }
 {
-    let (from, to) = dates::year::year_str(s, at)?;
-    let at = spaces::spaced_hyphen(s, to)?;
+    let (year, at) = dates::year::year_str(s, at)?;
+    let at = spaces::spaced_hyphen(s, at)?;
     let (month, at) = numbers::spaced_u8(s, at)?;
     let at = spaces::spaced_hyphen(s, at)?;
     let (day, at) = numbers::spaced_u8(s, at)?;
-    date_parts::with_year(s, from, to, month, day, at)
+    date_parts::with_year(year, MonthDay { month, day }, at)
 }
 
 // `20221114`; the combined item begins with it too. No space is skipped in front.
 pub fn iso2(s: &[u8], at: usize) -> Option<(Date, usize)>
     ensures { answer_of result ≡ iso2 (lowered s.now) at }
 {
-    let end = primitive::dec_uint_str(s, at)?;
-    if end - at < FEWEST_DIGITS {
+    let (digits, end) = primitive::dec_uint_str(s, at)?;
+    let n = digits.len();
+    if n < FEWEST_DIGITS {
         return None;
     }
-    let (month, _) = u8_from_str(s, end - 4, end - 2)?;
-    let (day, _) = u8_from_str(s, end - 2, end)?;
-    date_parts::with_year(s, at, end - 4, month, day, end)
-}
-
-// The Rust's `month_from_str` and `day_from_str`. Two lines, as the widths of `numbers` have.
-fn u8_from_str(s: &[u8], from: usize, to: usize) -> Option<(u8, usize)>
-    ensures { answer_of result ≡ parse_uint 255 (slice from to (lowered s.now)) (lowered s.now) to }
-{
-    let (value, next) = numbers::parse_uint(s, from, to, 255)?;
-    Some((value as u8, next))
+    let month = numbers::parse_u8(&digits[n - 4..n - 2], 255)?;
+    let day = numbers::parse_u8(&digits[n - 2..], 255)?;
+    date_parts::with_year(&digits[..n - 4], MonthDay { month, day }, end)
 }
 
 // A date that is not in ISO format; `iso1` and `iso2` are tried before.
@@ -70,7 +62,7 @@ fn dotted(s: &[u8], at: usize) -> Option<(Date, usize)>
     let at = spaces::spaced_byte(s, at, 46)?;
     let (month, at) = numbers::spaced_u8(s, at)?;
     let at = spaces::spaced_byte(s, at, 46)?;
-    date_parts::plain_dated(s, at, month, day)
+    date_parts::plain_dated(s, at, MonthDay { month, day })
 }
 
 // `2022/11/14`, `11/14/2022` or `11/14`.
@@ -78,48 +70,34 @@ fn dotted(s: &[u8], at: usize) -> Option<(Date, usize)>
 fn us(s: &[u8], at: usize) -> Option<(Date, usize)>
     ensures { answer_of result ≡ us (lowered s.now) at }
 {
-    let (from, to) = dates::year::year_str(s, at)?;
-    let at = spaces::spaced_byte(s, to, 47)?;
+    let (first, at) = dates::year::year_str(s, at)?;
+    let at = spaces::spaced_byte(s, at, 47)?;
     let (number, at) = numbers::spaced_u8(s, at)?;
-    us_rest(s, at, from, to, number)
-}
-
-#[tactic(auto, unfolding(dates::specs::Date::us_rest, dates::specs::Date::us_at))]
-fn us_rest(s: &[u8], at: usize, from: usize, to: usize, number: u8) -> Option<(Date, usize)>
-    ensures { answer_of result ≡ us_rest (slice from to (lowered s.now)) number (lowered s.now) at }
-{
-    us_date(s, at, from, to, number, slash_part(s, at))
-}
-
-// The part behind the second slash, where there is one: its digits stand from one place up to another, and end at the third.
-#[tactic(auto, unfolding(dates::specs::Date::slash_part))]
-fn slash_part(s: &[u8], at: usize) -> Option<(usize, usize, usize)>
-    ensures { year_answer (lowered s.now) at result ≡ slash_part (lowered s.now) at }
-{
-    let start = spaces::spaced_byte(s, at, 47)?;
-    let (from, to) = dates::year::year_str(s, start)?;
-    Some((from, to, to))
+    us_rest(s, at, first, number)
 }
 
 // GNU quirk: the first part is the year if it has 4 digits or more and there is a third part.
-fn us_date(
-    s: &[u8],
-    at: usize,
-    from: usize,
-    to: usize,
-    number: u8,
-    last: Option<(usize, usize, usize)>,
-) -> Option<(Date, usize)>
-    ensures { answer_of result ≡ us_at (slice from to (lowered s.now)) number (year_answer (lowered s.now) at last) (lowered s.now) }
+#[tactic(auto, unfolding(dates::specs::Date::us_rest, dates::specs::Date::us_date))]
+fn us_rest(s: &[u8], at: usize, first: &[u8], number: u8) -> Option<(Date, usize)>
+    ensures { answer_of result ≡ us_rest (lowered first.now) number (lowered s.now) at }
 {
-    let Some((start, end, next)) = last else {
-        let (month, _) = u8_from_str(s, from, to)?;
-        return date_parts::without_year(month, number, at);
+    let Some((last, next)) = slash_part(s, at) else {
+        let month = numbers::parse_u8(first, 255)?;
+        return date_parts::without_year(MonthDay { month, day: number }, at);
     };
-    if dates::year::digit_count(s, from, to) >= YEAR_DIGITS {
-        let (day, _) = u8_from_str(s, start, end)?;
-        return date_parts::with_year(s, from, to, number, day, next);
+    if first.len() >= YEAR_DIGITS {
+        let day = numbers::parse_u8(last, 255)?;
+        return date_parts::with_year(first, MonthDay { month: number, day }, next);
     }
-    let (month, _) = u8_from_str(s, from, to)?;
-    date_parts::with_year(s, start, end, month, number, next)
+    let month = numbers::parse_u8(first, 255)?;
+    date_parts::with_year(last, MonthDay { month, day: number }, next)
+}
+
+// The digits behind the second slash, where there is one.
+#[tactic(auto, unfolding(dates::specs::Date::slash_part))]
+fn slash_part(s: &[u8], at: usize) -> Option<(&[u8], usize)>
+    ensures { year_answer at result ≡ slash_part (lowered s.now) at }
+{
+    let start = spaces::spaced_byte(s, at, 47)?;
+    dates::year::year_str(s, start)
 }

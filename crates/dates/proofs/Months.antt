@@ -2,38 +2,42 @@
 -- gives. Assumes nothing.
 use borrow.Author.Rules.{rules}
 use borrow.Author.Tests.{ne_eqb}
-use Prim.Native.Nat.{ℕ, ◌<◌, ◌≤◌, ◌+◌}
+use Rattle.std.proofs.lemmas.Bool.{eqb-false}
+use lib.Dec.{eqb}
+use mathlib.Core.Bool.{false}
+use native.Mathlib.Omega.{arith}
+use Prim.Native.Nat.{ℕ}
 use Prim.Native.String.{String}
-use mathlib.Core.Path.{◌≡◌, refl, sym, ◌∙◌}
+use mathlib.Core.Path.{◌≡◌, refl, sym, ap, ◌∙◌}
 use mathlib.Core.List.{List, [], ◌∷◌}
-use lib.ListN.{length, get_or}
-use lib.Seq.{slice}
-use Rattle.primitive.specs.Answer.{Answer, none, found_at}
+use lib.ListN.{length, get_or, drop}
+use Rattle.primitive.specs.Answer.{none, found_at}
 use Rattle.primitive.specs.Text.{lower, lowered, bytes}
 use Rattle.primitive.specs.Primitive.{same, named, beside}
-use Rattle.primitive.proofs.Lowered.{slice_first, slice_beyond, slice_over}
+use Rattle.primitive.proofs.Lowered.{rest_cons}
 use Rattle.primitive.proofs.Tables.{in_lower, in_bytes, beside_named}
 use Rattle.dates.specs.Date.{months}
+use Rattle.std.specs.Prelude.{Option}
 
--- a word without a letter is no month
-module _ (s : List ℕ) (start end : ℕ) where
-  pub no_word : end ≤ start → none ≡ named months (slice start end (lowered s)) (lowered s) end
-  unfolding named months same bytes
-  no_word h = rw (slice_over s start end h)
+-- no byte is no month
+pub no_word : (word text : List ℕ) (at : ℕ) → length word ≡ 0 → none ≡ named months (lowered word) text at
+unfolding named months same bytes lowered
+no_word [] text at e = refl
+no_word (b ∷ bs) text at e = absurd (omega arith)
 
-  pub no_text : length s ≤ start → none ≡ named months (slice start end (lowered s)) (lowered s) end
-  unfolding named months same bytes
-  no_text h = rw (slice_beyond s start end h)
+-- a word, by its first letter
+by_first : (word : List ℕ) → eqb (length word) 0 ≡ false → (l : ℕ) → l ≡ lower (get_or word 0 0) → lowered word ≡ l ∷ drop 1 (lowered word)
+by_first word h l e = let some = eqb-false (length word) 0 h in rest_cons word 0 (omega arith) l e
 
 -- the table of the names that begin with b
 abbrev pub Beginning : ℕ → List (String × ℕ) → Type 0
 Beginning b es = (w text : List ℕ) (at : ℕ) → named months (b ∷ w) text at ≡ named es (b ∷ w) text at
 
-pub by_letter : (l : ℕ) (es : List (String × ℕ)) → Beginning l es → (rows : List (List ℕ × ℕ)) → in_lower rows ≡ in_bytes es → (s : List ℕ) (start end : ℕ) (a : Answer ℕ) →
-    a ≡ found_at end (beside rows (slice start end (lowered s))) → start < end → start < length s → l ≡ lower (get_or s start 0) → a ≡ named months (slice start end (lowered s)) (lowered s) end
-by_letter l es begins rows g s start end a q h k e =
-    let z = slice_first s start end h k l e in
-    rw z (rw z at q ∙ (beside_named (lowered s) end (l ∷ slice (start + 1) end (lowered s)) es rows g ∙ sym (begins (slice (start + 1) end (lowered s)) (lowered s) end)))
+pub by_letter : (l : ℕ) (es : List (String × ℕ)) → Beginning l es → (rows : List (List ℕ × ℕ)) → in_lower rows ≡ in_bytes es → (word : List ℕ) (r : Option ℕ)
+    → r ≡ beside rows (lowered word) → eqb (length word) 0 ≡ false → l ≡ lower (get_or word 0 0) → (text : List ℕ) (at : ℕ) → found_at at r ≡ named months (lowered word) text at
+by_letter l es begins rows g word r q h e text at =
+    let z = by_first word h l e in
+    rw z (ap (found_at at) (rw z at q) ∙ (beside_named text at (l ∷ drop 1 (lowered word)) es rows g ∙ sym (begins (drop 1 (lowered word)) text at)))
 
 unfoldable pub j_months : List (String × ℕ)
 j_months = ("january", 1) ∷ ("jan", 1) ∷ ("jan.", 1) ∷ ("june", 6) ∷ ("jun", 6) ∷ ("jun.", 6) ∷ ("july", 7) ∷ ("jul", 7) ∷ ("jul.", 7) ∷ []
@@ -92,12 +96,12 @@ unfolding named months same bytes d_months
 d_begins w text at = refl
 
 -- no other letter begins a month
-pub other_letter : (s : List ℕ) (start end : ℕ) → start < end → start < length s → (b : ℕ) → b ≡ lower (get_or s start 0)
+pub other_letter : (word : List ℕ) → eqb (length word) 0 ≡ false → (b : ℕ) → b ≡ lower (get_or word 0 0)
     → (b ≡ 106 → ⊥) → (b ≡ 109 → ⊥) → (b ≡ 97 → ⊥) → (b ≡ 102 → ⊥) → (b ≡ 115 → ⊥) → (b ≡ 111 → ⊥) → (b ≡ 110 → ⊥) → (b ≡ 100 → ⊥)
-    → none ≡ named months (slice start end (lowered s)) (lowered s) end
+    → (text : List ℕ) (at : ℕ) → none ≡ named months (lowered word) text at
 unfolding named months same bytes
-other_letter s start end h k b e j m a f g o n d =
+other_letter word h b e j m a f g o n d text at =
     rw
-    (slice_first s start end h k b e, ne_eqb b 106 j, ne_eqb b 109 m, ne_eqb b 97 a, ne_eqb b 102 f, ne_eqb b 115 g, ne_eqb b 111 o, ne_eqb b 110 n, ne_eqb b 100 d)
+    (by_first word h b e, ne_eqb b 106 j, ne_eqb b 109 m, ne_eqb b 97 a, ne_eqb b 102 f, ne_eqb b 115 g, ne_eqb b 111 o, ne_eqb b 110 n, ne_eqb b 100 d)
 
-pub ruleset month_names = (no_word, no_text, other_letter, rules)
+pub ruleset month_names = (no_word, other_letter, rules)

@@ -1,69 +1,35 @@
--- Laws of parts of a text: where a run of bytes ends, what parts a part has, and a byte behind a part. Assumes nothing.
+-- Laws of parts of a text: parts of bytes in lower case, and a byte behind a part. Assumes nothing.
 use Prim.Native.Nat.{ℕ, ◌+◌, ◌-◌, ◌<◌, ◌≤◌}
-use mathlib.Core.Path.{◌≡◌, refl, sym, ap, ap₂, ◌∙◌}
+use mathlib.Core.Path.{◌≡◌, refl, sym, ap, ◌∙◌}
 use mathlib.Core.Bool.{Bool, true, false, ◌&&◌}
 use mathlib.Core.List.{List, [], ◌∷◌, ◌++◌}
 use native.Mathlib.Omega.{arith}
 use native.Mathlib.Numerals.{add-one}
 use lib.Dec.{ltb, eqb}
 use lib.ListN.{length, get_or, take, drop, length-drop}
-use lib.Seq.{slice, length-take-le, take-suc, drop-cons, take-take, take-add, drop-drop, drop_at, drop-append-le}
+use lib.Seq.{slice, length-take-le, take-suc, drop-cons, drop-append-le}
 use borrow.Author.Tests.{ltb-true, eqb-true}
-use Rattle.std.specs.Prelude.{Option, Some, None, unwrap_or}
-use Rattle.primitive.specs.Answer.{Answer, matched, none, if, place_answer}
-use Rattle.primitive.specs.Text.{letter, run, past, some, starts, tag, byte}
+use Rattle.primitive.specs.Answer.{Answer, matched, none, if}
+use Rattle.primitive.specs.Text.{lower, lowered, letter, past, some, starts, tag, byte}
 use Rattle.primitive.specs.Primitive.{alpha1}
 use Rattle.dates.specs.Date.{word_dot}
-use Rattle.primitive.proofs.Forward.{run_le}
+use Rattle.primitive.proofs.Limits.{slice_take}
+use Rattle.std.proofs.lemmas.List.{take-map, drop-map}
 
--- a run that was read is no empty one, and lies within the text
-pub run_ends : (p : ℕ → Bool) (text : List ℕ) (at end : ℕ) (v : List ℕ) → some p text at ≡ matched v end → (at < end) × (end ≤ length text)
-unfolding some past
-run_ends p text at end v = by (ltb at (at + run p (drop at text))) refl
-  where
-    by : (t : Bool) → ltb at (at + run p (drop at text)) ≡ t → if t (matched (slice at (at + run p (drop at text)) text) (at + run p (drop at text))) none ≡ matched v end →
-        (at < end) × (end ≤ length text)
-    by true q e =
-        let z : at + run p (drop at text) ≡ end = cc in
-        omega (arith, ltb-true, run_le p (drop at text), length-drop at text)
-    by false q e = let z : ◌≡◌ {A = ℕ} 0 1 = cc in (omega arith, omega arith)
+-- parts of bytes, in lower case
+pub lowered_take : (k : ℕ) (d : List ℕ) → lowered (take k d) ≡ take k (lowered d)
+unfolding lowered
+lowered_take k d = sym (take-map lower k d)
 
--- the parts of the part from `at` up to `end`
-module _ (text : List ℕ) (at end : ℕ) (h : end ≤ length text) where
-  front : (m : ℕ) → at ≤ m → m ≤ end → take (m - at) (slice at end text) ≡ slice at m text
-  front m k l =
-      let e : m ≡ at + (m - at) = omega arith in
-      let n : length (take end text) ≡ end = length-take-le end text h in
-      sym (ap (drop at) (sym (take-take m end text l) ∙ ap (λ (x : ℕ). take x (take end text)) e ∙ take-add at (m - at) (take end text))
-      ∙ drop_at (take at (take end text)) _ at (length-take-le at (take end text) (omega arith)))
+pub lowered_drop : (k : ℕ) (d : List ℕ) → lowered (drop k d) ≡ drop k (lowered d)
+unfolding lowered
+lowered_drop k d = sym (drop-map lower k d)
 
-  back : (m : ℕ) → at ≤ m → drop (m - at) (slice at end text) ≡ slice m end text
-  back m k = let e : at + (m - at) ≡ m = omega arith in drop-drop (m - at) at (take end text) ∙ ap (λ (x : ℕ). drop x (take end text)) e
-
-  whole : length (slice at end text) ≡ end - at
-  whole = length-drop at (take end text) ∙ ap (λ (n : ℕ). n - at) (length-take-le end text h)
-
-  pub part_length : length (slice at end text) ≡ end - at
-  part_length = whole
-
-  -- all but the last k, and the last k
-  pub part_front : (k : ℕ) → at + k ≤ end → take (length (slice at end text) - k) (slice at end text) ≡ slice at (end - k) text
-  part_front k l =
-      let e : length (slice at end text) - k ≡ end - k - at = omega (arith, whole) in
-      ap (λ (n : ℕ). take n (slice at end text)) e ∙ front (end - k) (omega arith) (omega arith)
-
-  pub part_back : (k : ℕ) → at + k ≤ end → drop (length (slice at end text) - k) (slice at end text) ≡ slice (end - k) end text
-  part_back k l =
-      let e : length (slice at end text) - k ≡ end - k - at = omega (arith, whole) in
-      ap (λ (n : ℕ). drop n (slice at end text)) e ∙ back (end - k) (omega arith)
-
--- from the last j up to the last k
-pub part_middle : (text : List ℕ) (at end : ℕ) → end ≤ length text → (j k : ℕ) → k ≤ j → at + j ≤ end →
-    slice (length (slice at end text) - j) (length (slice at end text) - k) (slice at end text) ≡ slice (end - j) (end - k) text
-part_middle text at end h j k i l =
-    let e : length (slice at end text) - j ≡ end - j - at = omega (arith, whole text at end h) in
-    let f : at + (end - j - at) ≡ end - j = omega arith in
-    ap₂ drop e (part_front text at end h k (omega arith)) ∙ drop-drop (end - j - at) at (take (end - k) text) ∙ ap (λ (x : ℕ). drop x (take (end - k) text)) f
+pub lowered_slice : (a b : ℕ) (d : List ℕ) → a ≤ b → lowered (take (b - a) (drop a d)) ≡ slice a b (lowered d)
+lowered_slice a b d h =
+    let z : a + (b - a) ≡ b = omega arith in
+    lowered_take (b - a) (drop a d)
+    ∙ (ap (take (b - a)) (lowered_drop a d) ∙ (sym (slice_take a (b - a) (lowered d)) ∙ ap (λ (n : ℕ). drop a (take n (lowered d))) z))
 
 -- a byte behind a part belongs to the part up to it
 pub part_and_byte : (b : ℕ) (text : List ℕ) (at end n : ℕ) → at ≤ end → byte b text end ≡ matched tt n → slice at n text ≡ slice at end text ++ (b ∷ [])
@@ -101,10 +67,25 @@ module _ (text : List ℕ) (at : ℕ) where
   unfolding word_dot
   no_word_dot e = rw (← e)
 
-  module _ (end : ℕ) (read : matched (slice at end text) end ≡ alpha1 text at) where
-    pub word_and_dot : (r : Option ℕ) → place_answer r ≡ byte 46 text end → (n : ℕ) → n ≡ unwrap_or r end → matched (slice at n text) n ≡ word_dot text at
-    unfolding word_dot alpha1
-    word_and_dot None dot n e = rw (← read, ← dot, e)
-    word_and_dot (Some m) dot n e =
-        let inside = run_ends letter text at end (slice at end text) (sym read) in
-        rw (← read, ← dot, e) (ap (λ (w : List ℕ). matched w m) (part_and_byte 46 text at end m (omega (arith, inside)) (sym dot)))
+  module _ (w : List ℕ) (end : ℕ) (read : matched w end ≡ alpha1 text at) where
+    word_is : (w ≡ slice at end text) × (at < end)
+    unfolding alpha1 some
+    word_is = go (ltb at (past letter text at)) refl read
+      where
+        go : (t : Bool) → ltb at (past letter text at) ≡ t → matched w end ≡ if t (matched (slice at (past letter text at) text) (past letter text at)) none → (w ≡ slice at end text) × (at < end)
+        go true q e = let z : end ≡ past letter text at = cc in let y : w ≡ slice at (past letter text at) text = cc in (rw z y, rw z (ltb-true at (past letter text at) q))
+        go false q e = let z : ◌≡◌ {A = ℕ} 0 1 = cc in (absurd (clash z), absurd (clash z))
+          where
+            clash : ◌≡◌ {A = ℕ} 0 1 → ⊥
+            clash z = omega arith
+
+    pub word_and_dot : (n : ℕ) → matched tt n ≡ byte 46 text end → matched (slice at n text) n ≡ word_dot text at
+    unfolding word_dot
+    word_and_dot n dot =
+        let inside = word_is in
+        let l = inside.1 in
+        rw (← read, ← dot, inside.0) (ap (λ (w : List ℕ). matched w n) (part_and_byte 46 text at end n (omega arith) (sym dot)))
+
+    pub word_alone : none ≡ byte 46 text end → matched w end ≡ word_dot text at
+    unfolding word_dot
+    word_alone dot = rw (← read, ← dot)

@@ -1,22 +1,15 @@
--- Laws of digits as years: how many there are, and that widening makes no year smaller. Assumes nothing.
-use Prim.Native.Nat.{ℕ, ◌+◌, ◌-◌, ◌<◌, ◌≤◌, min}
-use mathlib.Core.Path.{◌≡◌, refl, sym, ap, ◌∙◌}
+-- Laws of digits as years: widening makes no year smaller, and the year is that of the number that was parsed. Assumes nothing.
+use Prim.Native.Nat.{ℕ, ◌+◌, ◌<◌, ◌≤◌}
+use mathlib.Core.Path.{◌≡◌, refl, sym}
 use mathlib.Core.Bool.{Bool, true, false}
 use mathlib.Core.List.{List}
 use native.Mathlib.Omega.{arith}
 use lib.Dec.{leb, eqb}
-use lib.ListN.{length, take, length-take, length-drop}
-use lib.Seq.{slice}
+use lib.ListN.{length}
 use borrow.Author.Tests.{leb-true, leb-false, le-leb, lt-leb}
-use Rattle.primitive.specs.Answer.{matched, none, if, verify}
-use Rattle.primitive.specs.Text.{lowered}
+use Rattle.primitive.specs.Answer.{matched, none, if}
 use Rattle.primitive.specs.Primitive.{decimal, parse_uint}
-use Rattle.primitive.proofs.Lowered.{length_lowered}
 use Rattle.dates.specs.Year.{widened_by, year_from_str}
-
-pub slice_length : (s : List ℕ) (from to : ℕ) → length (slice from to (lowered s)) ≡ min to (length s) - from
-slice_length s from to =
-    length-drop from (take to (lowered s)) ∙ ap (λ (n : ℕ). n - from) (length-take to (lowered s) ∙ ap (min to) (length_lowered s))
 
 pub widened_up : (k y : ℕ) → y ≤ widened_by k y
 unfolding widened_by
@@ -65,37 +58,3 @@ module _ (w text : List ℕ) (at : ℕ) where
     pub year_within : y ≤ 2147485547 → matched y at ≡ year_from_str w text at
     unfolding year_from_str
     year_within h = rw (widened_is, le-leb y 2147485547 h)
-
--- a test reads nothing, so its answer is the same at every place
-module _ {A : Type 0} (v y : A) (text : List ℕ) (at at' n : ℕ) where
-  pub verify_moved : (t : Bool) → matched y n ≡ verify t v text at → verify t v text at' ≡ matched y at'
-  verify_moved true e = let z : v ≡ y = cc in ap (λ (x : A). matched x at') z
-  verify_moved false e = let z : ◌≡◌ {A = ℕ} 0 1 = cc in absurd (clash z)
-    where
-      clash : ◌≡◌ {A = ℕ} 0 1 → ⊥
-      clash z = omega arith
-
-  pub verify_none : (t : Bool) → none ≡ verify t v text at → verify t v text at' ≡ none
-  verify_none true e = let z : ◌≡◌ {A = ℕ} 0 1 = cc in absurd (clash z)
-    where
-      clash : ◌≡◌ {A = ℕ} 0 1 → ⊥
-      clash z = omega arith
-  verify_none false e = refl
-
-module _ (w text : List ℕ) (at at' : ℕ) where
-  pub year_moved : (y n : ℕ) → matched y n ≡ year_from_str w text at → year_from_str w text at' ≡ matched y at'
-  unfolding year_from_str
-  year_moved y n e = verify_moved _ y text at at' n (leb (widened_by (length w) (decimal w)) 2147485547) e
-
-  pub year_none : none ≡ year_from_str w text at → year_from_str w text at' ≡ none
-  unfolding year_from_str
-  year_none e = verify_none (widened_by (length w) (decimal w)) 0 text at at' 0 (leb (widened_by (length w) (decimal w)) 2147485547) e
-
-module _ (max : ℕ) (w text : List ℕ) (at at' : ℕ) where
-  pub parse_moved : (y n : ℕ) → matched y n ≡ parse_uint max w text at → parse_uint max w text at' ≡ matched y at'
-  unfolding parse_uint
-  parse_moved y n e = verify_moved (decimal w) y text at at' n (leb (decimal w) max) e
-
-  pub parse_none : none ≡ parse_uint max w text at → parse_uint max w text at' ≡ none
-  unfolding parse_uint
-  parse_none e = verify_none (decimal w) 0 text at at' 0 (leb (decimal w) max) e

@@ -1,10 +1,11 @@
 -- Calendar dates, as in items/date.rs and section 29.2 of the manual. No reader of dates stops.
 use Rattle.std.specs.Prelude.{ℕ, ◌-◌, List, [], ◌∷◌, ◌++◌, Bool, ◌&&◌, length, take, drop, leb, Option, Some, None}
 use Prim.Native.String.{String}
+use Rattle.std.specs.Borrow.{Bor}
 use Rattle.std.proofs.Math.Seq.{slice}
 use Rattle.extended.specs.Calendar.{month_days}
 use Rattle.primitive.specs.Answer.{Answer, Reader, matched, none, if, and_then, ◌>>=◌, ◌>>◌, ◌<|>◌, pure, value, optional, verify}
-use Rattle.primitive.specs.Text.{char}
+use Rattle.primitive.specs.Text.{lowered, char}
 use Rattle.primitive.specs.Primitive.{multispace1, spaced, parse_uint, dec_uint_str, dec_uint, alpha1, named}
 use Rattle.dates.specs.Year.{year_from_str, year_str}
 use Rattle.dates.specs.declared.date.Date.{Date}
@@ -180,14 +181,11 @@ unfoldable pub parse_non_iso : Reader Date
 parse_non_iso = dotted <|> (us <|> literal)
 
 -- ---- the code's answers
--- a year that may be absent: from one place up to another, and the place behind
-abbrev pub year_answer : List ℕ → ℕ → Option (ℕ × ℕ × ℕ) → Answer Written
-year_answer text at (Some y) = matched (written (slice y.0 y.1 text)) y.2
-year_answer text at None = matched unwritten at
+-- a year that may be absent: its digits, and the place behind
+abbrev pub year_answer : ℕ → Option (Bor (List ℕ) × ℕ) → Answer Written
+year_answer at (Some y) = matched (written (lowered y.0.now)) y.1
+year_answer at None = matched unwritten at
 
 -- the date of an answered year
 unfoldable pub written_at : Answer Written → ℕ → ℕ → List ℕ → Answer Date
 written_at a m d text = and_then a (λ y n. dated y m d text n)
-
-unfoldable pub us_at : List ℕ → ℕ → Answer Written → List ℕ → Answer Date
-us_at w n a text = and_then a (λ v k. us_date w n v text k)

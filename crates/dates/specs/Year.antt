@@ -1,8 +1,7 @@
 -- A year from its digits, as in items/year.rs.
-use Rattle.std.specs.Prelude.{ℕ, ◌+◌, List, length, leb, eqb, Option, Some, None}
-use Rattle.std.proofs.Math.Seq.{slice}
+use Rattle.std.specs.Prelude.{ℕ, ◌+◌, List, length, leb, eqb}
 use Rattle.extended.specs.Extended.{last_year}
-use Rattle.primitive.specs.Answer.{Answer, Reader, matched, none, if, verify}
+use Rattle.primitive.specs.Answer.{Reader, if, verify}
 use Rattle.primitive.specs.Primitive.{spaced, decimal, dec_uint_str}
 
 -- 29.2: "If year is 68 or smaller, then 2000 is added to it; otherwise, if year is less than 100, then 1900 is added to it."
@@ -20,8 +19,3 @@ year_from_str w = verify (leb (widened w) last_year) (widened w)
 -- the digits of a year
 unfoldable pub year_str : Reader (List ℕ)
 year_str = spaced dec_uint_str
-
--- digits that stand from one place up to another
-abbrev pub digits_answer : List ℕ → Option (ℕ × ℕ) → Answer (List ℕ)
-digits_answer text (Some d) = matched (slice d.0 d.1 text) d.1
-digits_answer text None = none

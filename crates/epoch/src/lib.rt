@@ -3,16 +3,15 @@
 
 #![tactic(auto)]
 
-ghost use Rattle.std.specs.Prelude.{◌≡◌};
-ghost use Rattle.std.proofs.Math.Seq.{slice};
-ghost use Rattle.primitive.specs.Text.{lowered, digit, past};
+ghost use Rattle.std.specs.Prelude.{◌≡◌, length};
+ghost use Rattle.primitive.specs.Text.{lowered, digit, run};
 ghost use Rattle.primitive.specs.Answer.{answer_of, place_answer};
 ghost use Rattle.primitive.specs.Epoch.{point_or_comma, nanoseconds, fraction, sec_and_nsec};
 
 use primitive::SecAndNsec;
 
 #[tactic(auto, unfolding(primitive::specs::Epoch::sec_and_nsec))]
-pub fn sec_and_nsec(s: &[u8], at: usize) -> Option<(SecAndNsec, usize)>
+pub fn sec_and_nsec(s: &[u8], at: usize) -> Option<(SecAndNsec<u64>, usize)>
     ensures { answer_of result ≡ sec_and_nsec (lowered s.now) at }
 {
     let (sec, at) = numbers::dec_u64(s, at)?;
@@ -26,8 +25,8 @@ pub fn fraction(s: &[u8], at: usize) -> Option<(u32, usize)>
     ensures { answer_of result ≡ fraction (lowered s.now) at }
 {
     let start = point_or_comma(s, at)?;
-    let end = primitive::dec_uint_str(s, start)?;
-    Some((nanoseconds(s, start, end), end))
+    let (digits, end) = primitive::dec_uint_str(s, start)?;
+    Some((nanoseconds(digits), end))
 }
 
 #[tactic(auto, unfolding(primitive::specs::Epoch::point_or_comma))]
@@ -37,18 +36,17 @@ fn point_or_comma(s: &[u8], at: usize) -> Option<usize>
     primitive::byte(s, at, 46).or_else(|| primitive::byte(s, at, 44))
 }
 
-// The value of nine digits: those from `from` up to `to`, which are all the digits there, and zeros behind them where there are
-// fewer.
+// The value of nine digits: those that are given, and zeros behind them where there are fewer.
 #[tactic(auto, using(primitive::proofs::Fractions::fractions))]
-fn nanoseconds(s: &[u8], from: usize, to: usize) -> u32
-    requires { to ≡ past digit (lowered s.now) from }
-    ensures { result ≡ nanoseconds (slice from to (lowered s.now)) }
+fn nanoseconds(digits: &[u8]) -> u32
+    requires { run digit (lowered digits.now) ≡ length digits.now }
+    ensures { result ≡ nanoseconds (lowered digits.now) }
 {
     let mut acc: u32 = 0;
     // nine turns, whatever digits there are
     for k in 0..9 {
-        if k < to - from {
-            acc = acc * 10 + u32::from(s[from + k] - 48);
+        if k < digits.len() {
+            acc = acc * 10 + u32::from(digits[k] - 48);
         } else {
             acc *= 10;
         }

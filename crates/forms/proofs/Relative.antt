@@ -155,7 +155,7 @@ module _ {w l rest : List ℕ} (word : Word w l) {ago : Bool} (d : Reads directi
       unfolding second_word
       second_word_read = behind_space gap (word_read w word.long word.letters word.ends) ⟨ named second_words ⟩ t l
 
-      module _ (as' : List ℕ) (a : all blank as' ≡ true) {x : List ℕ} (h : digit (head x) ≡ true) {v : SecAndNsec} (r : Reads sec_and_nsec x v (bs ++ (w ++ l))) (small : v.sec < 2 ^ 63) where
+      module _ (as' : List ℕ) (a : all blank as' ≡ true) {x : List ℕ} (h : digit (head x) ≡ true) {v : SecAndNsec ℕ} (r : Reads sec_and_nsec x v (bs ++ (w ++ l))) (small : v.sec < 2 ^ 63) where
         signed_seconds_read : (negative : Bool) → Reads (signed_seconds negative) (as' ++ x) (rounded (if ago (not negative) negative) v) rest
         unfolding signed_seconds
         signed_seconds_read negative = behind_space (blanks as' a (digit_still h)) r ⟨ _ ⟩ second_word_read ⟨ _ ⟩ d ⟨ _ ⟩ verified (lt-ltb v.sec (2 ^ 63) small)
@@ -169,7 +169,7 @@ module _ {w l rest : List ℕ} (word : Word w l) {ago : Bool} (d : Reads directi
             ⟨ signed_seconds ⟩ signed_seconds_read false)
 
       -- seconds with a sign: `-0.25 sec`
-      pub signed_seconds_item : (as' : List ℕ) → all blank as' ≡ true → (negative : Bool) {x : List ℕ} → digit (head x) ≡ true → {v : SecAndNsec} → Reads sec_and_nsec x v (bs ++ (w ++ l)) → v.sec < 2 ^ 63
+      pub signed_seconds_item : (as' : List ℕ) → all blank as' ≡ true → (negative : Bool) {x : List ℕ} → digit (head x) ≡ true → {v : SecAndNsec ℕ} → Reads sec_and_nsec x v (bs ++ (w ++ l)) → v.sec < 2 ^ 63
           → Reads parse (as' ++ (sign_of negative ∷ x)) (rounded (if ago (not negative) negative) v) rest
       unfolding parse seconds
       signed_seconds_item as' a negative {x} h r small =

@@ -1,6 +1,7 @@
 -- Theorem: each time form of 29.3 is read by `parse_item` as exactly its time, and what stands behind it is left. Blanks may stand in front.
 -- Assumes nothing.
 use Rattle.std.specs.Prelude.{Option, None}
+use Rattle.primitive.specs.declared.SecAndNsec.{SecAndNsec}
 use Rattle.times.specs.declared.offset.Offset.{Offset}
 use native.Mathlib.Omega.{arith}
 use Prim.Native.Nat.{ℕ, ◌+◌, ◌%◌, ◌<◌, ◌≤◌}
@@ -13,7 +14,6 @@ use Rattle.primitive.specs.Text.{bytes, blank, digit, letter}
 use Rattle.primitive.specs.Primitive.{spaced, decimal, same}
 use Rattle.dates.specs.Date.{literal_month, months, parse_non_iso}
 use Rattle.times.specs.Time.{optional_second, optional_correction, meridiem}
-use Rattle.times.specs.declared.time.SecNsec.{SecNsec}
 use Rattle.items.specs.Items.{iso_date, parse_item}
 use Rattle.items.specs.declared.Item.TheVariants as item
 use Rattle.forms.proofs.Walk.{Reads, Fails, Spaces, at_once, ◌nor◌, not_behind_space}
@@ -60,14 +60,14 @@ module _ (bs : List ℕ) (b : all blank bs ≡ true) where
 module _ (bs : List ℕ) (b : all blank bs ≡ true) {hs ms l m' rest : List ℕ} (h : Number hs) (m : Number ms) where
   -- `20:02`, `20:02:00.5`, each with a correction or without one. Behind the minutes stands no digit, and behind the seconds, where the hour
   -- is 12 at most, neither am nor pm.
-  pub time_24 : decimal hs < 24 → decimal ms < 60 → digit (head l) ≡ false → {v : SecNsec} → Reads optional_second l v m' → {o : Option Offset} → Reads optional_correction m' o rest → (decimal hs ≤ 12 → Fails meridiem m')
+  pub time_24 : decimal hs < 24 → decimal ms < 60 → digit (head l) ≡ false → {v : SecAndNsec ℕ} → Reads optional_second l v m' → {o : Option Offset} → Reads optional_correction m' o rest → (decimal hs ≤ 12 → Fails meridiem m')
       → Reads parse_item (bs ++ (hs ++ (58 ∷ (ms ++ l)))) (item.Time (record { hour = decimal hs; minute = decimal ms; second = v.sec; nanosecond = v.nsec; offset = o })) rest
   time_24 hour minute d s c a =
       let f = no_dates_colon bs b (ms ++ l) h (omega arith) in
       time_next f.0 f.1 (clock_item (blanks bs b (number_still _ h)) h m hour minute d s c a)
 
   -- `8:02pm`, `8:02:00.5 p.m.`
-  pub time_12 : 0 < decimal hs → decimal hs ≤ 12 → decimal ms < 60 → digit (head l) ≡ false → {v : SecNsec} → Reads optional_second l v m' → {pm : Bool} → Reads meridiem m' pm rest
+  pub time_12 : 0 < decimal hs → decimal hs ≤ 12 → decimal ms < 60 → digit (head l) ≡ false → {v : SecAndNsec ℕ} → Reads optional_second l v m' → {pm : Bool} → Reads meridiem m' pm rest
       → Reads parse_item (bs ++ (hs ++ (58 ∷ (ms ++ l)))) (item.Time (record { hour = decimal hs % 12 + if pm 12 0; minute = decimal ms; second = v.sec; nanosecond = v.nsec; offset = None })) rest
   unfolding digit
   time_12 some_hour hour minute d s a =

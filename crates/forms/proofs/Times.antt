@@ -23,7 +23,6 @@ use Rattle.times.specs.Offset.{certain, unless, in_range, offset_of, timezone_of
 use Rattle.times.specs.Time.{below, hour24, hour12, minute, second, optional_second, optional_minute, optional_correction, hour_offset, clock, iso, meridiem, am_pm_time, parse}
 use Rattle.times.specs.declared.offset.Offset.{Offset}
 use Rattle.times.specs.declared.time.Time.{Time}
-use Rattle.times.specs.declared.time.SecNsec.{SecNsec}
 
 -- ---- combinators of this crate
 
@@ -87,7 +86,7 @@ colon_here : {l : List ℕ} → Reads colon (58 ∷ l) tt l
 unfolding blank
 colon_here = colon_read (still (plain refl))
 
-pub second_read : {x rest : List ℕ} {v : SecAndNsec} → digit (head x) ≡ true → Reads sec_and_nsec x v rest → v.sec < 60 → Reads optional_second (58 ∷ x) (record { sec = v.sec; nsec = v.nsec }) rest
+pub second_read : {x rest : List ℕ} {v : SecAndNsec ℕ} → digit (head x) ≡ true → Reads sec_and_nsec x v rest → v.sec < 60 → Reads optional_second (58 ∷ x) (record { sec = v.sec; nsec = v.nsec }) rest
 unfolding optional_second second
 second_read {v = v} h r s = first _ (colon_here ⟨ _ ⟩ behind_space (still (digit_still h)) r ⟨ _ ⟩ verified (lt-ltb v.sec 60 s))
 
@@ -191,7 +190,7 @@ module _ {l m : List ℕ} (s : Spaces l m) (g : eqb (head m) 43 ≡ false) (h : 
 -- ---- 24 hours
 
 -- `20:02`, `20:02:00.5`, each with a correction or without one: the seconds and the correction are read from what stands behind the minutes
-module _ {x hs ms l m' rest : List ℕ} (i : Spaces x (hs ++ (58 ∷ (ms ++ l)))) (h : Number hs) (m : Number ms) (hour : decimal hs < 24) (minutes : decimal ms < 60) (d : digit (head l) ≡ false) {v : SecNsec} (s : Reads optional_second l v m') {o : Option Offset} (c : Reads optional_correction m' o rest) where
+module _ {x hs ms l m' rest : List ℕ} (i : Spaces x (hs ++ (58 ∷ (ms ++ l)))) (h : Number hs) (m : Number ms) (hour : decimal hs < 24) (minutes : decimal ms < 60) (d : digit (head l) ≡ false) {v : SecAndNsec ℕ} (s : Reads optional_second l v m') {o : Option Offset} (c : Reads optional_correction m' o rest) where
   abbrev clocked : Time
   clocked = record { hour = decimal hs; minute = decimal ms; second = v.sec; nanosecond = v.nsec; offset = o }
 
@@ -273,7 +272,7 @@ module _ (bs : List ℕ) (b : all blank bs ≡ true) {rest : List ℕ} where
   meridiem_read true false = pm_read bs b
   meridiem_read true true = p_m_read bs b
 
-module _ {x hs l m' k rest : List ℕ} (i : Spaces x (hs ++ l)) (h : Number hs) (some_hour : 0 < decimal hs) (hour : decimal hs ≤ 12) (d : digit (head l) ≡ false) {mins : ℕ} (m : Reads optional_minute l mins m') {v : SecNsec} (s : Reads optional_second m' v k) {pm : Bool} (a : Reads meridiem k pm rest) where
+module _ {x hs l m' k rest : List ℕ} (i : Spaces x (hs ++ l)) (h : Number hs) (some_hour : 0 < decimal hs) (hour : decimal hs ≤ 12) (d : digit (head l) ≡ false) {mins : ℕ} (m : Reads optional_minute l mins m') {v : SecAndNsec ℕ} (s : Reads optional_second m' v k) {pm : Bool} (a : Reads meridiem k pm rest) where
   pub half_day_item : Reads parse x (record { hour = decimal hs % 12 + if pm 12 0; minute = mins; second = v.sec; nanosecond = v.nsec; offset = None }) rest
   unfolding parse am_pm_time
   half_day_item = first iso (hour12_read i h d hour ⟨ _ ⟩ m ⟨ _ ⟩ s ⟨ _ ⟩ a ⟨ _ ⟩ certain_so (lt-ltb 0 (decimal hs) some_hour))

@@ -7,7 +7,7 @@ ghost use Rattle.primitive.specs.Text.{lowered};
 ghost use Rattle.primitive.specs.Answer.{answer_of};
 ghost use Rattle.dates.specs.Date.{literal1, literal2, literal3, literal};
 
-use dates::date::Date;
+use dates::date::{Date, MonthDay};
 
 #[tactic(auto, unfolding(dates::specs::Date::literal))]
 pub fn literal(s: &[u8], at: usize) -> Option<(Date, usize)>
@@ -25,7 +25,7 @@ fn literal1(s: &[u8], at: usize) -> Option<(Date, usize)>
 {
     let (day, at) = numbers::spaced_u8(s, at)?;
     let (month, at) = months::spaced_month(s, date_parts::hyphen(s, at))?;
-    date_parts::hyphen_dated(s, at, month, day)
+    date_parts::hyphen_dated(s, at, MonthDay { month, day })
 }
 
 // `November 14, 2022`, `Nov 14, 2022`, `Nov 14 2022`, `Nov 14`.
@@ -35,7 +35,7 @@ fn literal2(s: &[u8], at: usize) -> Option<(Date, usize)>
 {
     let (month, at) = months::spaced_month(s, at)?;
     let (day, at) = numbers::spaced_u8(s, at)?;
-    date_parts::comma_dated(s, at, month, day)
+    date_parts::comma_dated(s, at, MonthDay { month, day })
 }
 
 // `November-14-2022` and `Nov-14-2022`. Unlike in `literal2` the year is always there.
@@ -47,6 +47,6 @@ fn literal3(s: &[u8], at: usize) -> Option<(Date, usize)>
     let at = spaces::spaced_byte(s, at, 45)?;
     let (day, at) = numbers::spaced_u8(s, at)?;
     let at = spaces::spaced_byte(s, at, 45)?;
-    let (from, to) = dates::year::year_str(s, at)?;
-    date_parts::with_year(s, from, to, month, day, to)
+    let (year, at) = dates::year::year_str(s, at)?;
+    date_parts::with_year(year, MonthDay { month, day }, at)
 }

@@ -2,11 +2,10 @@
 
 #![tactic(auto)]
 
-ghost use Rattle.std.specs.Prelude.{◌≡◌, map};
-ghost use Rattle.std.proofs.Math.Seq.{slice};
-ghost use Rattle.primitive.specs.Text.{lowered};
-ghost use Rattle.primitive.specs.Answer.{answer_of, found_at, slice_answer};
-ghost use Rattle.primitive.specs.Primitive.{spaced, named, beside};
+ghost use Rattle.std.specs.Prelude.{◌≡◌, ℕ, List};
+ghost use Rattle.primitive.specs.Text.{lowered, part_answer};
+ghost use Rattle.primitive.specs.Answer.{answer_of, found_at};
+ghost use Rattle.primitive.specs.Primitive.{spaced, named};
 ghost use Rattle.dates.specs.Date.{word_dot, months, literal_month};
 
 pub fn spaced_month(s: &[u8], at: usize) -> Option<(u8, usize)>
@@ -21,30 +20,28 @@ fn literal_month(s: &[u8], at: usize) -> Option<(u8, usize)>
     ensures { answer_of result ≡ literal_month (lowered s.now) at }
 {
     let start = spaces::space(s, at);
-    let end = word_dot(s, start)?;
-    month_named(s, start, end)
+    let (word, end) = word_dot(s, start)?;
+    let month = month_named(word)?;
+    Some((month, end))
 }
 
-// The month that the word from `start` up to `end` names. Its first letter tells most names apart.
+// The month that a word names. Its first letter tells most names apart: with one table of all names a date of such a name took twice as long.
 #[tactic(auto, using(dates::proofs::Months::month_names))]
-pub fn month_named(s: &[u8], start: usize, end: usize) -> Option<(u8, usize)>
-    ensures { answer_of result ≡ named months (slice start end (lowered s.now)) (lowered s.now) end }
+pub fn month_named(word: &[u8]) -> Option<u8>
+    ensures { (text : List ℕ) (at : ℕ) → found_at at result ≡ named months (lowered word.now) text at }
 {
-    if end <= start {
+    if word.is_empty() {
         return None;
     }
-    if s.len() <= start {
-        return None;
-    }
-    match primitive::to_lower(s[start]) {
-        b'j' => month_in(s, start, end, &J_MONTHS),
-        b'm' => month_in(s, start, end, &M_MONTHS),
-        b'a' => month_in(s, start, end, &A_MONTHS),
-        b'f' => month_in(s, start, end, &F_MONTHS),
-        b's' => month_in(s, start, end, &S_MONTHS),
-        b'o' => month_in(s, start, end, &O_MONTHS),
-        b'n' => month_in(s, start, end, &N_MONTHS),
-        b'd' => month_in(s, start, end, &D_MONTHS),
+    match primitive::to_lower(word[0]) {
+        b'j' => words::find_value(word, &J_MONTHS),
+        b'm' => words::find_value(word, &M_MONTHS),
+        b'a' => words::find_value(word, &A_MONTHS),
+        b'f' => words::find_value(word, &F_MONTHS),
+        b's' => words::find_value(word, &S_MONTHS),
+        b'o' => words::find_value(word, &O_MONTHS),
+        b'n' => words::find_value(word, &N_MONTHS),
+        b'd' => words::find_value(word, &D_MONTHS),
         _ => None,
     }
 }
@@ -88,18 +85,13 @@ const N_MONTHS: [(&str, u8); 3] = [("november", 11), ("nov", 11), ("nov.", 11)];
 
 const D_MONTHS: [(&str, u8); 3] = [("december", 12), ("dec", 12), ("dec.", 12)];
 
-// The month beside a word in a table.
-fn month_in(s: &[u8], start: usize, end: usize, table: &[(&str, u8)]) -> Option<(u8, usize)>
-    ensures { answer_of result ≡ found_at end (beside (map (λ e. (e.0.now, e.1)) table.now) (slice start end (lowered s.now))) }
-{
-    let month = words::find_value(s, start, end, table)?;
-    Some((month, end))
-}
-
 // A word, and a dot that stands behind it.
-fn word_dot(s: &[u8], at: usize) -> Option<usize>
-    ensures { slice_answer (lowered s.now) at result ≡ word_dot (lowered s.now) at }
+fn word_dot(s: &[u8], at: usize) -> Option<(&[u8], usize)>
+    ensures { part_answer result ≡ word_dot (lowered s.now) at }
 {
-    let end = primitive::alpha1(s, at)?;
-    Some(primitive::byte(s, end, 46).unwrap_or(end))
+    let (word, end) = primitive::alpha1(s, at)?;
+    match primitive::byte(s, end, 46) {
+        Some(next) => Some((primitive::part(s, at, next), next)),
+        None => Some((word, end)),
+    }
 }

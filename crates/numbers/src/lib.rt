@@ -2,23 +2,21 @@
 
 #![tactic(auto)]
 
-ghost use Rattle.std.specs.Prelude.{◌≡◌, ◌-◌, ◌<◌, ◌^◌, ltb};
-ghost use Rattle.std.proofs.Math.Seq.{slice};
-ghost use Rattle.primitive.specs.Answer.{answer_of, if, matched, none};
+ghost use Rattle.std.specs.Prelude.{◌≡◌, ℕ, List, ◌-◌, ◌<◌, ◌^◌, ltb};
+ghost use Rattle.primitive.specs.Answer.{answer_of, found_at, if, matched, none};
 ghost use Rattle.primitive.specs.Text.{lowered};
 ghost use Rattle.primitive.specs.Primitive.{spaced, parse_uint, dec_uint};
 ghost use Rattle.primitive.specs.Ordinal.{signed, signed_number};
 
-// The value of the digits from `from` up to `to`, if it is at most `max`: the Rust's `parse` on a part of the text. Each step is
-// tested before it is made, so that no sum is too large.
+// The value of digits, if it is at most `max`: the Rust's `parse` on a part of the text. Each step is tested before it is made, so that
+// no sum is too large.
 #[tactic(auto, using(primitive::proofs::Values::values))]
-pub fn parse_uint(s: &[u8], from: usize, to: usize, max: u64) -> Option<(u64, usize)>
-    ensures { answer_of result ≡ parse_uint max (slice from to (lowered s.now)) (lowered s.now) to }
+pub fn parse_uint(digits: &[u8], max: u64) -> Option<u64>
+    ensures { (text : List ℕ) (at : ℕ) → found_at at result ≡ parse_uint max (lowered digits.now) text at }
 {
     let mut acc: u64 = 0;
-    // a range is empty where `from` is behind the end; a slice would have to be tested first
-    for i in from..usize::min(to, s.len()) {
-        let d = digit_value(primitive::to_lower(s[i]));
+    for b in digits {
+        let d = digit_value(primitive::to_lower(*b));
         if max < d {
             return None;
         }
@@ -27,7 +25,15 @@ pub fn parse_uint(s: &[u8], from: usize, to: usize, max: u64) -> Option<(u64, us
         }
         acc = acc * 10 + d;
     }
-    Some((acc, to))
+    Some(acc)
+}
+
+// The same where a byte holds the limit.
+pub fn parse_u8(digits: &[u8], max: u8) -> Option<u8>
+    ensures { (text : List ℕ) (at : ℕ) → found_at at result ≡ parse_uint max (lowered digits.now) text at }
+{
+    let value = parse_uint(digits, u64::from(max))?;
+    Some(value as u8)
 }
 
 fn digit_value(b: u8) -> u64
@@ -69,8 +75,8 @@ fn number_of(at: usize, end: usize, n: u64) -> Option<(u64, usize)>
 fn long_uint(s: &[u8], at: usize, max: u64) -> Option<(u64, usize)>
     ensures { answer_of result ≡ dec_uint max (lowered s.now) at }
 {
-    let end = primitive::dec_uint_str(s, at)?;
-    parse_uint(s, at, end, max)
+    let (digits, end) = primitive::dec_uint_str(s, at)?;
+    Some((parse_uint(digits, max)?, end))
 }
 
 // Of `dec_u8` and `dec_u32` a generic one would take a type and a limit that has to fit it: no plainer than two casts.

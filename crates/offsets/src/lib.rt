@@ -46,7 +46,7 @@ fn signed_fraction(s: &[u8], at: usize) -> Option<(u32, usize)>
     ensures { answer_of result ≡ signed_fraction (lowered s.now) at }
 {
     let (_, at) = spaces::plus_or_minus(s, at)?;
-    let at = primitive::dec_uint_str(s, spaces::space(s, at))?;
+    let (_, at) = primitive::dec_uint_str(s, spaces::space(s, at))?;
     epoch::fraction(s, at)
 }
 
@@ -92,9 +92,9 @@ fn timezone_offset_colonless(s: &[u8], at: usize) -> Result<(Offset, usize), Mis
 {
     let (negative, at) = spaces::plus_or_minus(s, at).ok_or(Miss::NoMatch)?;
     let start = spaces::space(s, at);
-    let end = primitive::dec_uint_str(s, start).ok_or(Miss::NoMatch)?;
-    let (n, next) = numbers::parse_uint(s, start, end, 9999).ok_or(Miss::NoMatch)?;
-    digits_offset(negative, end - start, n, next)
+    let (digits, next) = primitive::dec_uint_str(s, start).ok_or(Miss::NoMatch)?;
+    let n = numbers::parse_uint(digits, 9999).ok_or(Miss::NoMatch)?;
+    digits_offset(negative, digits.len(), n, next)
 }
 
 // One or two digits are hours; of more, the last two are minutes.

@@ -4,8 +4,9 @@ use borrow.Author.Rules.{rules}
 use Prim.Native.Nat.{ℕ}
 use mathlib.Core.Path.{◌≡◌, sym, ap, ◌∙◌}
 use mathlib.Core.List.{List}
-use lib.Seq.{slice}
-use Rattle.primitive.specs.Answer.{Answer, matched, none, and_then, or_else, answer_of, place_answer, slice_answer}
+use Rattle.std.specs.Borrow.{Bor}
+use Rattle.primitive.specs.Text.{lowered, part_answer}
+use Rattle.primitive.specs.Answer.{Answer, matched, none, and_then, or_else, answer_of, place_answer}
 use Rattle.std.specs.Prelude.{Option, Some, None}
 
 -- For any answer: the three ways on, and the two of a choice.
@@ -56,12 +57,12 @@ module _ (p : Answer (Unit {0})) (r : Option ℕ) (e : place_answer r ≡ p) whe
     pub place_then_else : (q a : Answer B) → r ≡ None → a ≡ q → a ≡ or_else (and_then p f) q
     place_then_else q a k g = first_none (and_then p f) q a (sym (place_none k)) g
 
--- Where the bytes up to an end were read.
-module _ (p : Answer (List ℕ)) (text : List ℕ) (at : ℕ) (r : Option ℕ) (e : slice_answer text at r ≡ p) {B : Type 0} (f : List ℕ → ℕ → Answer B) where
-  pub slice_match : (n : ℕ) (q : Answer B) → r ≡ Some n → q ≡ f (slice at n text) n → q ≡ and_then p f
-  slice_match n q k g = then_matched f p (slice at n text) n q (sym e ∙ ap (slice_answer text at) k) g
+-- Where bytes were read.
+module _ (p : Answer (List ℕ)) (r : Option (Bor (List ℕ) × ℕ)) (e : part_answer r ≡ p) {B : Type 0} (f : List ℕ → ℕ → Answer B) where
+  pub part_match : (v : Bor (List ℕ)) (n : ℕ) (q : Answer B) → r ≡ Some (v, n) → q ≡ f (lowered v.now) n → q ≡ and_then p f
+  part_match v n q k g = then_matched f p (lowered v.now) n q (sym e ∙ ap part_answer k) g
 
-  pub slice_none : r ≡ None → none ≡ and_then p f
-  slice_none k = then_none f p (sym e ∙ ap (slice_answer text at) k)
+  pub part_none : r ≡ None → none ≡ and_then p f
+  part_none k = then_none f p (sym e ∙ ap part_answer k)
 
-pub ruleset chain = (value_match, value_none, value_first_then, value_else_then, place_match, place_none, place_then_else, slice_match, slice_none, rules)
+pub ruleset chain = (value_match, value_none, value_first_then, value_else_then, place_match, place_none, place_then_else, part_match, part_none, rules)

@@ -2,12 +2,13 @@
 use Prim.Native.Nat.{ℕ}
 use Prim.Native.String.{String}
 use mathlib.Core.Path.{◌≡◌, refl}
-use mathlib.Core.List.{[], ◌∷◌}
+use mathlib.Core.List.{List, [], ◌∷◌}
+use Rattle.std.specs.Prelude.{Some, None}
 use mathlib.Core.Bool.{true, false}
 use lib.IntN.{pos, negsuc}
 use Rattle.primitive.specs.Answer.{Answer, Reader, matched, none}
 use Rattle.primitive.specs.Text.{lower, lowered, bytes, blank, digit, letter, run, past, some, starts, tag, quoted}
-use Rattle.primitive.specs.Primitive.{multispace0, multispace1, closing, inside, comment, no_digit, sign, ignored_hyphen_or_plus, ignored, skip, space, decimal, parse_uint, dec_uint_str, dec_uint, colon, plus_or_minus, alpha1, same, named, words, index}
+use Rattle.primitive.specs.Primitive.{multispace0, multispace1, closing, inside, comment, no_digit, sign, ignored_hyphen_or_plus, ignored, skip, space, decimal, parse_uint, dec_uint_str, dec_uint, colon, plus_or_minus, alpha1, same, named, beside}
 use Rattle.primitive.specs.Epoch.{padded, nanoseconds, point_or_comma, fraction, sec_and_nsec}
 use Rattle.primitive.specs.Ordinal.{signed, signed_number, ordinals, text_ordinal, number_ordinal, ordinal}
 
@@ -63,10 +64,12 @@ ordinal_numbers : (reads ordinal "Last" ≡ matched (negsuc 0) 4) × (reads ordi
 unfolding lower lowered bytes blank digit letter run past some starts tag closing inside comment no_digit sign ignored_hyphen_or_plus ignored multispace0 skip space decimal parse_uint dec_uint_str dec_uint alpha1 same named signed signed_number ordinals text_ordinal number_ordinal ordinal
 ordinal_numbers = (refl, refl, refl, refl, refl, refl, refl, refl, refl, refl, refl)
 
--- A table as bytes: each word has a blank behind it; what stands behind the last blank is no word.
-tables : (index (bytes "may") (words (bytes "march may june ")) ≡ 1) × (index (bytes "ma") (words (bytes "march may june ")) ≡ 3)
-    × (index (bytes "july") (words (bytes "march may june july")) ≡ 3)
-unfolding bytes same words index
+-- A table: the first word that is the same, capitals or not; a part of a word is none of its words.
+spring : List (List ℕ × ℕ)
+spring = (bytes "march", 3) ∷ (bytes "May", 5) ∷ (bytes "may", 6) ∷ []
+
+tables : (beside spring (bytes "may") ≡ Some 5) × (beside spring (bytes "ma") ≡ None) × (beside spring (bytes "july") ≡ None)
+unfolding bytes lower lowered same beside spring
 tables = (refl, refl, refl)
 
 -- A place beyond the text is the end of a text.

@@ -9,19 +9,17 @@ use native.Mathlib.Nat.{zero-add, suc-add, pow-suc, mul-le-mul_right}
 use mathlib.Core.Path.{◌≡◌, refl, sym, ap, ◌∙◌}
 use mathlib.Core.List.{List, [], ◌∷◌}
 use mathlib.Core.Bool.{Bool, true, false, ◌&&◌}
-use lib.ListN.{length, take, drop, length-drop, length-take}
+use lib.ListN.{length, take, drop}
 use lib.Seq.{slice}
 use lib.Dec.{ltb, leb}
 use lib.IntN.{ℤ, neg_ℤ}
 use lib.Signed.{mag}
 use Rattle.primitive.specs.Answer.{Answer, matched, none, stop, if, and_then, or_else}
-use Rattle.primitive.specs.Text.{bytes, lowered, digit, letter, run, past, some}
+use Rattle.primitive.specs.Text.{bytes, digit, run, past, some}
 use Rattle.primitive.specs.Primitive.{space, sign, decimal, dec_uint, dec_uint_str, alpha1, same, named}
 use Rattle.primitive.specs.Epoch.{padded, nanoseconds, point_or_comma, fraction, sec_and_nsec}
 use Rattle.primitive.specs.Ordinal.{signed, ordinals, text_ordinal, signed_number, number_ordinal, ordinal}
 use Rattle.primitive.specs.declared.SecAndNsec.{SecAndNsec}
-use Rattle.primitive.proofs.Forward.{run_le}
-use Rattle.primitive.proofs.Lowered.{length_lowered}
 use Rattle.primitive.proofs.Numbers.{number_limit}
 
 clash : ◌≡◌ {A = ℕ} 0 1 → ⊥
@@ -105,7 +103,7 @@ fraction_below text at v n = go (point_or_comma text at)
     go none f = let z : ◌≡◌ {A = ℕ} 0 1 = cc in absurd (clash z)
     go stop f = let z : ◌≡◌ {A = ℕ} 0 1 = cc in absurd (clash z)
 
-nsec_below : (text : List ℕ) (at n : ℕ) (v : SecAndNsec) → sec_and_nsec text at ≡ matched v n → v.nsec < 1000000000
+nsec_below : (text : List ℕ) (at n : ℕ) (v : SecAndNsec ℕ) → sec_and_nsec text at ≡ matched v n → v.nsec < 1000000000
 unfolding sec_and_nsec
 nsec_below text at n v = go (dec_uint 18446744073709551615 text at)
   where
@@ -119,7 +117,7 @@ nsec_below text at n v = go (dec_uint 18446744073709551615 text at)
     go none f = let z : ◌≡◌ {A = ℕ} 0 1 = cc in absurd (clash z)
     go stop f = let z : ◌≡◌ {A = ℕ} 0 1 = cc in absurd (clash z)
 
-pub nsec_limit : (text : List ℕ) (at n : ℕ) (v : SecAndNsec) → matched v n ≡ sec_and_nsec text at → v.nsec < 1000000000
+pub nsec_limit : (text : List ℕ) (at n : ℕ) (v : SecAndNsec ℕ) → matched v n ≡ sec_and_nsec text at → v.nsec < 1000000000
 nsec_limit text at n v e = nsec_below text at n v (sym e)
 
 -- ---- ordinals
@@ -192,47 +190,4 @@ ordinal_within text at n v = go (text_ordinal text at) refl
 pub ordinal_range : (text : List ℕ) (at n : ℕ) (v : ℤ) → matched v n ≡ ordinal text at → mag (neg_ℤ v) < 2 ^ 31
 ordinal_range text at n v e = ordinal_within text at n v (sym e)
 
--- ---- words and digits
-
--- a run that was read has a byte and lies within the text
-some_ends : (p : ℕ → Bool) (s : List ℕ) (at n : ℕ) → matched (slice at n (lowered s)) n ≡ some p (lowered s) at → (at < n) × (n ≤ length s)
-unfolding some past
-some_ends p s at n e = go (ltb at (at + run p (drop at (lowered s)))) refl e
-  where
-    go : (t : Bool) → ltb at (at + run p (drop at (lowered s))) ≡ t
-        → matched (slice at n (lowered s)) n ≡ if t (matched (slice at (at + run p (drop at (lowered s))) (lowered s)) (at + run p (drop at (lowered s)))) none
-        → (at < n) × (n ≤ length s)
-    go true h f =
-        let z : n ≡ at + run p (drop at (lowered s)) = cc in
-        let y = ltb-true at (at + run p (drop at (lowered s))) h in
-        let x = run_le p (drop at (lowered s)) in
-        let u = length-drop at (lowered s) in
-        let l = length_lowered s in
-        (omega arith, omega arith)
-    go false h f = let z : ◌≡◌ {A = ℕ} 0 1 = cc in absurd (clash z)
-
-module _ (s : List ℕ) (at n : ℕ) where
-  module _ (e : matched (slice at n (lowered s)) n ≡ alpha1 (lowered s) at) where
-    pub word_longer : at < n
-    unfolding alpha1
-    word_longer = (some_ends letter s at n e).0
-
-    pub word_inside : n ≤ length s
-    unfolding alpha1
-    word_inside = (some_ends letter s at n e).1
-
-  module _ (e : matched (slice at n (lowered s)) n ≡ dec_uint_str (lowered s) at) where
-    pub digits_later : at ≤ n
-    unfolding dec_uint_str
-    digits_later = let h = some_ends digit s at n e in let l = h.0 in omega arith
-
-    -- as many as the places that they take
-    pub digits_length : length (slice at n (lowered s)) ≡ n - at
-    unfolding dec_uint_str
-    digits_length =
-        let h = some_ends digit s at n e in
-        let l = h.1 in
-        let m = length_lowered s in
-        simp (length-drop, length-take) (omega arith)
-
-pub ruleset limits = (nsec_limit, ordinal_range, word_longer, word_inside, digits_later, rules)
+pub ruleset limits = (nsec_limit, ordinal_range, rules)

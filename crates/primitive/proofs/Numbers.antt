@@ -24,6 +24,10 @@ parse_limit max w text at v n = go (leb (decimal w) max) refl
     go true e k = let z : v ≡ decimal w = cc in rw z (leb-true (decimal w) max e)
     go false e k = let z : ◌≡◌ {A = ℕ} 0 1 = cc in omega arith
 
+-- the same of the value of digits, wherever they stand
+pub parse_most : (max : ℕ) (w : List ℕ) (v : ℕ) → ((text : List ℕ) (at : ℕ) → matched v at ≡ parse_uint max w text at) → v ≤ max
+parse_most max w v e = parse_limit max w w 0 v 0 (sym (e w 0))
+
 pub number_limit : (max : ℕ) (text : List ℕ) (at v n : ℕ) → dec_uint max text at ≡ matched v n → v ≤ max
 unfolding dec_uint
 number_limit max text at v n = go (dec_uint_str text at)

@@ -34,7 +34,7 @@ module _ (s : List ℕ) (at max acc i : ℕ) (inv : scanned acc s i at) where
     ended k = rw (← k) (e ∙ go (ltb at i))
       where
         go : (t : Bool) → if t (matched acc i) none ≡ and_then (if t (matched (slice at i (lowered s)) i) none) (λ w n. parse_uint max w (lowered s) n)
-        go true = parse_done s acc i i (slice at i (lowered s)) (rw (← k) at inv.2) max i (omega arith) m
+        go true = parse_done s acc i i (slice at i (lowered s)) (rw (← k) at inv.2) (lowered s) max i (omega arith) m
         go false = refl
 
     pub scan_end : length s ≤ i → answer_of r ≡ dec_uint max (lowered s) at
@@ -61,7 +61,7 @@ module _ (s : List ℕ) (at max acc i : ℕ) (inv : scanned acc s i at) where
     unfolding scanned
     scan_next =
         let a = inv.0 in
-        (omega arith, digits_next s i at inv.1 h t f g, parse_next s acc i (past digit (lowered s) at) _ inv.2 inside h (get_or s i 0) itself d v)
+        (omega arith, digits_next s i at inv.1 h t f g, parse_next s acc i (past digit (lowered s) at) _ inv.2 (lowered s) inside h (get_or s i 0) itself d v)
 
     pub scan_over : max < acc * 10 + d → none ≡ dec_uint max (lowered s) at
     unfolding scanned dec_uint dec_uint_str some
@@ -69,7 +69,7 @@ module _ (s : List ℕ) (at max acc i : ℕ) (inv : scanned acc s i at) where
         let a = inv.0 in
         let y = inside in
         rw (lt-ltb at (past digit (lowered s) at) (omega arith))
-        (over s acc i (past digit (lowered s) at) _ inv.2 inside h (get_or s i 0) itself d v max (past digit (lowered s) at) o)
+        (over s acc i (past digit (lowered s) at) _ inv.2 (lowered s) inside h (get_or s i 0) itself d v max (past digit (lowered s) at) o)
 
 pub digit_worth : (b d : ℕ) (t : Bool) → t ≡ digit b → t ≡ true → d ≡ b - 48 → d ≤ 9
 unfolding digit

@@ -3,28 +3,29 @@
 use Prim.Native.Nat.{ℕ}
 use mathlib.Core.Path.{◌≡◌}
 use mathlib.Core.List.{List}
-use lib.Seq.{slice}
-use Rattle.primitive.specs.Answer.{Answer, none, and_then, answer_of, slice_answer}
+use Rattle.std.specs.Borrow.{Bor}
+use Rattle.primitive.specs.Text.{lowered, part_answer}
+use Rattle.primitive.specs.Answer.{Answer, none, and_then, answer_of}
 use Rattle.primitive.specs.Primitive.{space, dec_uint_str, alpha1}
-use Rattle.primitive.proofs.Chain.{slice_match, slice_none, value_match, value_none, chain}
+use Rattle.primitive.proofs.Chain.{part_match, part_none, value_match, value_none, chain}
 use Rattle.std.specs.Prelude.{Option, Some, None}
 
 module _ (text : List ℕ) (at start : ℕ) (g : start ≡ space text at) {B : Type 0} where
   -- a word
-  module _ (f : List ℕ → ℕ → Answer B) (r : Option ℕ) (e : slice_answer text start r ≡ alpha1 text start) where
-    pub spaced_word_match : (n : ℕ) (q : Answer B) → r ≡ Some n → q ≡ f (slice start n text) n → q ≡ and_then (alpha1 text (space text at)) f
-    spaced_word_match n q k p = rw (← g) (slice_match _ text start r e f n q k p)
+  module _ (f : List ℕ → ℕ → Answer B) (r : Option (Bor (List ℕ) × ℕ)) (e : part_answer r ≡ alpha1 text start) where
+    pub spaced_word_match : (v : Bor (List ℕ)) (n : ℕ) (q : Answer B) → r ≡ Some (v, n) → q ≡ f (lowered v.now) n → q ≡ and_then (alpha1 text (space text at)) f
+    spaced_word_match v n q k p = rw (← g) (part_match _ r e f v n q k p)
 
     pub spaced_word_none : r ≡ None → none ≡ and_then (alpha1 text (space text at)) f
-    spaced_word_none k = rw (← g) (slice_none _ text start r e f k)
+    spaced_word_none k = rw (← g) (part_none _ r e f k)
 
   -- digits
-  module _ (f : List ℕ → ℕ → Answer B) (r : Option ℕ) (e : slice_answer text start r ≡ dec_uint_str text start) where
-    pub spaced_digits_match : (n : ℕ) (q : Answer B) → r ≡ Some n → q ≡ f (slice start n text) n → q ≡ and_then (dec_uint_str text (space text at)) f
-    spaced_digits_match n q k p = rw (← g) (slice_match _ text start r e f n q k p)
+  module _ (f : List ℕ → ℕ → Answer B) (r : Option (Bor (List ℕ) × ℕ)) (e : part_answer r ≡ dec_uint_str text start) where
+    pub spaced_digits_match : (v : Bor (List ℕ)) (n : ℕ) (q : Answer B) → r ≡ Some (v, n) → q ≡ f (lowered v.now) n → q ≡ and_then (dec_uint_str text (space text at)) f
+    spaced_digits_match v n q k p = rw (← g) (part_match _ r e f v n q k p)
 
     pub spaced_digits_none : r ≡ None → none ≡ and_then (dec_uint_str text (space text at)) f
-    spaced_digits_none k = rw (← g) (slice_none _ text start r e f k)
+    spaced_digits_none k = rw (← g) (part_none _ r e f k)
 
   -- a value
   module _ {A : Type 0} (p : List ℕ → ℕ → Answer A) (f : A → ℕ → Answer B) (r : Option (A × ℕ)) (e : answer_of r ≡ p text start) where

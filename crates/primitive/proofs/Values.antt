@@ -4,14 +4,14 @@ use borrow.Author.Tests.{le-leb, lt-leb}
 use native.Mathlib.Omega.{arith}
 use Prim.Native.Nat.{ℕ, zero, suc, ◌+◌, ◌-◌, ◌*◌, ◌/◌, ◌^◌, ◌<◌, ◌≤◌}
 use native.Mathlib.Nat.{pow-suc, add-mul, mul_assoc, mul_comm, add_assoc, le-mul_of_pos_right}
-use mathlib.Core.Path.{◌≡◌, sym, subst, ◌∙◌}
+use mathlib.Core.Path.{◌≡◌, sym, ap, subst, ◌∙◌}
 use mathlib.Core.List.{List, [], ◌∷◌, ◌++◌}
 use lib.ListN.{length, get_or}
-use lib.Seq.{slice}
+use lib.Seq.{slice, take_all}
 use Rattle.primitive.specs.Answer.{matched, none}
 use Rattle.primitive.specs.Text.{lower, lowered}
 use Rattle.primitive.specs.Primitive.{decimal, parse_uint}
-use Rattle.primitive.proofs.Lowered.{slice_first, slice_beyond, slice_over}
+use Rattle.primitive.proofs.Lowered.{length_lowered, slice_first, slice_over}
 
 -- the decimal value of the digits of acc with more digits behind them
 pub grown : ℕ → List ℕ → ℕ
@@ -56,35 +56,35 @@ pub grown_start : (s : List ℕ) (from to : ℕ) → grown_from 0 s from to ≡ 
 unfolding grown_from
 grown_start s from to = grown_zero (slice from to (lowered s))
 
-module _ (s : List ℕ) (acc i to : ℕ) (w : List ℕ) (inv : grown_from acc s i to ≡ decimal w) where
-  ended : (max n : ℕ) → acc ≤ max → acc ≡ decimal w → matched acc n ≡ parse_uint max w (lowered s) n
+-- all digits
+pub grown_whole : (s : List ℕ) → grown_from 0 s 0 (length s) ≡ decimal (lowered s)
+grown_whole s = grown_start s 0 (length s) ∙ ap decimal (take_all (length s) (lowered s) (let l = length_lowered s in omega arith))
+
+module _ (s : List ℕ) (acc i to : ℕ) (w : List ℕ) (inv : grown_from acc s i to ≡ decimal w) (text : List ℕ) where
+  ended : (max n : ℕ) → acc ≤ max → acc ≡ decimal w → matched acc n ≡ parse_uint max w text n
   unfolding parse_uint
   ended max n h e = rw (← e, le-leb acc max h)
 
-  pub parse_done : (max n : ℕ) → to ≤ i → acc ≤ max → matched acc n ≡ parse_uint max w (lowered s) n
+  pub parse_done : (max n : ℕ) → to ≤ i → acc ≤ max → matched acc n ≡ parse_uint max w text n
   unfolding grown_from
   parse_done max n h m = ended max n m (sym (grown_none acc) ∙ (rw (slice_over s i to h) at inv))
-
-  pub parse_short : (max n : ℕ) → length s ≤ i → acc ≤ max → matched acc n ≡ parse_uint max w (lowered s) n
-  unfolding grown_from
-  parse_short max n h m = ended max n m (sym (grown_none acc) ∙ (rw (slice_beyond s i to h) at inv))
 
   module _ (h : i < to) (k : i < length s) (b : ℕ) (e : b ≡ lower (get_or s i 0)) (d : ℕ) (f : d ≡ b - 48) where
     pub parse_next : grown_from (acc * 10 + d) s (i + 1) to ≡ decimal w
     unfolding grown_from
     parse_next = rw (f, ← grown_cons acc b (slice (i + 1) to (lowered s)), ← slice_first s i to h k b e) inv
 
-    pub over : (max n : ℕ) → max < acc * 10 + d → none ≡ parse_uint max w (lowered s) n
+    pub over : (max n : ℕ) → max < acc * 10 + d → none ≡ parse_uint max w text n
     unfolding parse_uint grown_from
     over max n o =
         let g : acc * 10 + d ≤ decimal w = subst (λ (x : ℕ). acc * 10 + d ≤ x) parse_next (grown_ge (acc * 10 + d) (slice (i + 1) to (lowered s))) in
         rw (lt-leb (decimal w) max (omega arith))
 
     -- the two tests that keep the sum within max
-    pub parse_over_digit : (max n : ℕ) → max < d → none ≡ parse_uint max w (lowered s) n
+    pub parse_over_digit : (max n : ℕ) → max < d → none ≡ parse_uint max w text n
     parse_over_digit max n o = over max n (omega arith)
 
-    pub parse_over : (max n : ℕ) → (max - d) / 10 < acc → none ≡ parse_uint max w (lowered s) n
+    pub parse_over : (max n : ℕ) → (max - d) / 10 < acc → none ≡ parse_uint max w text n
     parse_over max n o = over max n (omega arith)
 
-pub ruleset values = (grown_start, parse_done, parse_short, parse_next, parse_over_digit, parse_over, rules)
+pub ruleset values = (grown_whole, parse_done, parse_next, parse_over_digit, parse_over, rules)

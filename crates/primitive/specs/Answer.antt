@@ -1,7 +1,6 @@
 -- What a reader answers, and how readers are put together. Document 01, 'Forms that must change': a reader answers a match
 -- with the next place, no match, or a stop.
 use Rattle.std.specs.Prelude.{ℕ, List, Bool, true, false, Option, Some, None, Result, Ok, Err}
-use Rattle.std.proofs.Math.Seq.{slice}
 use Rattle.primitive.specs.declared.Miss.{Miss}
 use Rattle.primitive.specs.declared.Miss.TheVariants.{NoMatch, Stop}
 
@@ -72,11 +71,6 @@ answer_of None = none
 abbrev pub place_answer : Option ℕ → Answer (Unit {0})
 place_answer (Some n) = matched tt n
 place_answer None = none
-
--- an end that stands for the bytes up to it
-abbrev pub slice_answer : List ℕ → ℕ → Option ℕ → Answer (List ℕ)
-slice_answer text at (Some n) = matched (slice at n text) n
-slice_answer text at None = none
 
 -- a value that was found, for what ends at a place
 abbrev pub found_at : {A : Type 0} → ℕ → Option A → Answer A

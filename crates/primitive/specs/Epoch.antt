@@ -26,7 +26,7 @@ fraction = do
   pure (nanoseconds ds)
 
 -- 29.9: "The number can contain an internal decimal point (either '.' or ',')". A point without a digit behind it is left unread.
-unfoldable pub sec_and_nsec : Reader SecAndNsec
+unfoldable pub sec_and_nsec : Reader (SecAndNsec ℕ)
 sec_and_nsec = do
   sec ← dec_uint 18446744073709551615
   nsec ← optional 0 fraction

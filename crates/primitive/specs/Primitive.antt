@@ -133,17 +133,3 @@ named (e ∷ es) w text at = if (same w (bytes e.0)) (matched e.1 at) (named es 
 unfoldable pub beside : {A : Type 0} → List (List ℕ × A) → List ℕ → Option A
 beside [] w = None
 beside (e ∷ es) w = if (same w (lowered e.0)) (Some e.1) (beside es w)
-
--- the words of a row of bytes in which a blank stands behind each word
-abbrev pub longer : ℕ → List (List ℕ) → List (List ℕ)
-longer b [] = []
-longer b (w ∷ ws) = (b ∷ w) ∷ ws
-
-unfoldable pub words : List ℕ → List (List ℕ)
-words [] = []
-words (b ∷ bs) = if (eqb b 32) ([] ∷ words bs) (longer b (words bs))
-
--- how many words stand in front of the first that is w; the number of all where none is
-unfoldable pub index : List ℕ → List (List ℕ) → ℕ
-index w [] = 0
-index w (x ∷ xs) = if (same w x) 0 (suc (index w xs))

@@ -1,10 +1,11 @@
 -- Bytes, lower case, and runs of bytes.
-use Rattle.std.specs.Prelude.{ℕ, suc, ◌+◌, ◌<◌, ◌≡◌, List, [], ◌∷◌, map, Bool, true, false, ◌&&◌, ◌||◌, length, drop, ltb, leb, eqb}
+use Rattle.std.specs.Prelude.{ℕ, suc, ◌+◌, ◌<◌, ◌≡◌, List, [], ◌∷◌, map, Bool, true, false, ◌&&◌, ◌||◌, length, drop, ltb, leb, eqb, Option, Some, None}
 use Prim.Native.String.{String}
 use Prim.Native.String.{[] as empty, ◌∷◌ as then}
 use Prim.Native.Char.{Char, code}
+use Rattle.std.specs.Borrow.{Bor}
 use Rattle.std.proofs.Math.Seq.{slice}
-use Rattle.primitive.specs.Answer.{Reader, matched, none, if}
+use Rattle.primitive.specs.Answer.{Answer, Reader, matched, none, if}
 
 -- 29.1: "Alphabetic case is completely ignored in dates." Bytes 65 to 90 are 97 to 122 in lower case; readers see the text so.
 unfoldable pub lower : ℕ → ℕ
@@ -12,6 +13,11 @@ lower b = if (leb 65 b && leb b 90) (b + 32) b
 
 unfoldable pub lowered : List ℕ → List ℕ
 lowered text = map lower text
+
+-- the code's answer of bytes that were read, and where they end
+abbrev pub part_answer : Option (Bor (List ℕ) × ℕ) → Answer (List ℕ)
+part_answer (Some p) = matched (lowered p.0.now) p.1
+part_answer None = none
 
 -- the bytes of a quoted text
 unfoldable pub bytes : String → List ℕ

@@ -7,8 +7,9 @@
 #![tactic(auto)]
 
 ghost use Rattle.std.specs.Prelude.{ℕ, Bool, min, ◌≡◌, eqb};
-ghost use Rattle.primitive.specs.Text.{lower, lowered, blank, digit, letter, past, some, Tells, byte, tag};
-ghost use Rattle.primitive.specs.Answer.{answer_of, place_answer, slice_answer};
+ghost use Rattle.std.proofs.Math.Seq.{slice};
+ghost use Rattle.primitive.specs.Text.{lower, lowered, part_answer, blank, digit, letter, past, some, Tells, byte, tag};
+ghost use Rattle.primitive.specs.Answer.{answer_of, place_answer};
 ghost use Rattle.primitive.specs.Primitive.{multispace1, sign, dec_uint_str, alpha1};
 
 // Why a reader that may stop the reading found nothing.
@@ -20,9 +21,10 @@ pub enum Miss {
     Stop,
 }
 
+// Seconds, of any size or below 60, and the nanoseconds behind them.
 #[derive(Clone, Copy)]
-pub struct SecAndNsec {
-    pub sec: u64,
+pub struct SecAndNsec<T> {
+    pub sec: T,
     pub nsec: u32,
 }
 
@@ -72,13 +74,25 @@ fn past<F: Fn(u8) -> bool>(s: &[u8], at: usize, passes: F) -> usize
     usize::max(at, s.len())
 }
 
-// The same where there is one or more.
-fn some<F: Fn(u8) -> bool>(s: &[u8], at: usize, passes: F) -> Option<usize>
+// The bytes from `at` up to `end`, as far as the text goes.
+pub fn part(s: &[u8], at: usize, end: usize) -> &[u8]
+    ensures { lowered result.now ≡ slice at end (lowered s.now) }
+{
+    let to = end.min(s.len());
+    if at < to { &s[at..to] } else { &[] }
+}
+
+// Those bytes and where they end, where there is one or more.
+fn some<F: Fn(u8) -> bool>(s: &[u8], at: usize, passes: F) -> Option<(&[u8], usize)>
     requires { F.IsAlwaysCallable passes }
-    ensures { (p : ℕ → Bool) → Tells (F.post passes) p → slice_answer (lowered s.now) at result ≡ some p (lowered s.now) at }
+    ensures { (p : ℕ → Bool) → Tells (F.post passes) p → part_answer result ≡ some p (lowered s.now) at }
 {
     let end = past(s, at, passes);
-    if at < end { Some(end) } else { None }
+    if at < end {
+        Some((part(s, at, end), end))
+    } else {
+        None
+    }
 }
 
 // The end of the blanks at a place.
@@ -89,15 +103,15 @@ pub fn multispace0(s: &[u8], at: usize) -> usize
 }
 
 // One blank or more.
-pub fn multispace1(s: &[u8], at: usize) -> Option<usize>
-    ensures { slice_answer (lowered s.now) at result ≡ multispace1 (lowered s.now) at }
+pub fn multispace1(s: &[u8], at: usize) -> Option<(&[u8], usize)>
+    ensures { part_answer result ≡ multispace1 (lowered s.now) at }
 {
     some(s, at, is_blank)
 }
 
-// One digit or more; the answer is where they end.
-pub fn dec_uint_str(s: &[u8], at: usize) -> Option<usize>
-    ensures { slice_answer (lowered s.now) at result ≡ dec_uint_str (lowered s.now) at }
+// One digit or more.
+pub fn dec_uint_str(s: &[u8], at: usize) -> Option<(&[u8], usize)>
+    ensures { part_answer result ≡ dec_uint_str (lowered s.now) at }
 {
     some(s, at, is_digit)
 }
@@ -152,9 +166,9 @@ pub fn tag(s: &[u8], at: usize, w: &[u8]) -> Option<usize>
     Some(at + w.len())
 }
 
-// A word, one letter or more; the answer is where it ends.
-pub fn alpha1(s: &[u8], at: usize) -> Option<usize>
-    ensures { slice_answer (lowered s.now) at result ≡ alpha1 (lowered s.now) at }
+// A word, one letter or more.
+pub fn alpha1(s: &[u8], at: usize) -> Option<(&[u8], usize)>
+    ensures { part_answer result ≡ alpha1 (lowered s.now) at }
 {
     some(s, at, is_letter)
 }

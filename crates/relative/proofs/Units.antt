@@ -1,21 +1,20 @@
--- The laws of a unit's word: an `s` at its end, and what the code's index of a unit gives. Assumes nothing.
+-- The laws of a unit's word: an `s` at its end, and the unit that stands beside it. Assumes nothing.
 use native.Mathlib.Omega.{arith}
 use borrow.Author.Tests.{eq-eqb, ne_eqb, lt-ltb, le-ltb}
-use Prim.Native.Nat.{ℕ, suc, ◌+◌, ◌-◌, ◌<◌, ◌≤◌, ◌^◌, zero-le}
-use mathlib.Core.Path.{◌≡◌, refl, sym, ap, ◌∙◌}
+use Prim.Native.Nat.{zero-le, ◌+◌, ℕ, ◌<◌, ◌≤◌, ◌^◌}
+use mathlib.Core.Path.{◌≡◌, refl, sym}
 use mathlib.Core.List.{List, [], ◌∷◌, ◌++◌}
 use mathlib.Core.Bool.{Bool, true, false}
-use lib.ListN.{length, get_or, take, length-take}
-use lib.Seq.{slice, take-suc, drop-append-le}
+use Prim.Native.String.{String}
+use lib.ListN.{length}
 use lib.Dec.{eqb, ltb}
 use lib.IntN.{ℤ}
-use Rattle.primitive.specs.Answer.{Answer, Reader, matched, none, if}
-use Rattle.primitive.specs.Text.{lower, lowered}
-use Rattle.primitive.specs.Primitive.{index}
+use Rattle.primitive.specs.Answer.{Answer, matched, none, if, and_then}
+use Rattle.primitive.specs.Text.{lower, lowered, bytes}
+use Rattle.primitive.specs.Primitive.{same, named}
 use Rattle.primitive.specs.declared.SecAndNsec.{SecAndNsec}
-use Rattle.primitive.proofs.Lowered.{length_lowered, get_or_lowered}
-use Rattle.primitive.proofs.Tables.{keys, values, named_in, named_out}
-use Rattle.relative.specs.Relative.{rounded, units, stripped, in_unit}
+use Rattle.std.proofs.lemmas.List.{map-append}
+use Rattle.relative.specs.Relative.{rounded, stripped, in_unit}
 use Rattle.relative.specs.declared.Relative.{Relative}
 use Rattle.primitive.proofs.Limits.{limits}
 use Rattle.relative.proofs.Chain.{relatives}
@@ -36,36 +35,38 @@ stripped_last (x ∷ (y ∷ ys)) b = rw (stripped_last (y ∷ ys) b) (go (eqb b 
     go true = refl
     go false = refl
 
-slice_last : (l : List ℕ) (from e : ℕ) → from ≤ e → e < length l → slice from (suc e) l ≡ slice from e l ++ (get_or l e 0 ∷ [])
-slice_last l from e h k =
-    let m : from ≤ length (take e l) = simp length-take (omega arith) in
-    rw (take-suc l e 0 k) (drop-append-le from (take e l) (get_or l e 0 ∷ []) m)
+pub stem_empty : (word : List ℕ) → length word ≡ 0 → lowered word ≡ stripped (lowered word)
+unfolding lowered stripped
+stem_empty [] e = refl
+stem_empty (b ∷ bs) e = absurd (omega arith)
 
-module _ (s : List ℕ) (start end : ℕ) (h : start < end) (k : end ≤ length s) (b : ℕ) (e : b ≡ lower (get_or s (end - 1) 0)) where
-  whole : slice start end (lowered s) ≡ slice start (end - 1) (lowered s) ++ (b ∷ [])
-  whole =
-      let l = length_lowered s in
-      let z : end ≡ suc (end - 1) = omega arith in
-      ap (λ (n : ℕ). slice start n (lowered s)) z ∙ (slice_last (lowered s) start (end - 1) (omega arith) (omega arith) ∙ rw (get_or_lowered s (end - 1), ← e))
+module _ (word front : List ℕ) (last b : ℕ) (i : word ≡ front ++ (last ∷ [])) (e : b ≡ lower last) where
+  whole : lowered word ≡ lowered front ++ (b ∷ [])
+  unfolding lowered
+  whole = rw (i, e) (map-append lower front (last ∷ []))
 
-  pub strip_s : b ≡ 115 → slice start (end - 1) (lowered s) ≡ stripped (slice start end (lowered s))
-  strip_s f = rw (whole, stripped_last (slice start (end - 1) (lowered s)) b, eq-eqb b 115 f)
+  pub stem_s : b ≡ 115 → lowered front ≡ stripped (lowered word)
+  stem_s f = rw (whole, stripped_last (lowered front) b, eq-eqb b 115 f)
 
-  pub strip_none : (b ≡ 115 → ⊥) → slice start end (lowered s) ≡ stripped (slice start end (lowered s))
-  strip_none f = sym (rw (whole, stripped_last (slice start (end - 1) (lowered s)) b, ne_eqb b 115 f))
+  pub stem_none : (b ≡ 115 → ⊥) → lowered word ≡ stripped (lowered word)
+  stem_none f = sym (rw (whole, stripped_last (lowered front) b, ne_eqb b 115 f))
 
--- ---- the unit at an index
+-- ---- a table whose values are given by others
 
-module _ (n : ℤ) (w v text : List ℕ) (next k : ℕ) (ws : List (List ℕ)) (g : ws ≡ keys units) (e : v ≡ stripped w) (f : k ≡ index v ws) where
-  pub unit_in : (d : ℤ → Reader Relative) (q : Answer Relative) → k < length units → q ≡ get_or (values units) k d n text next → q ≡ in_unit n w text next
-  unfolding in_unit
-  unit_in d q h p = rw (← e, ← named_in d v text next units ws g k f h) p
+unfoldable pub given_by : {A B : Type 0} → (A → B) → List (String × A) → List (String × B)
+given_by f [] = []
+given_by f (e ∷ es) = (e.0, f e.1) ∷ given_by f es
 
-  pub unit_out : (d : ℤ → Reader Relative) → length units ≤ k → none ≡ in_unit n w text next
-  unfolding in_unit
-  unit_out d h = rw (← e, ← named_out d v text next units ws g k f h)
+pub named_by : {A B : Type 0} (f : A → B) (es : List (String × A)) (w text : List ℕ) (at : ℕ) → named (given_by f es) w text at ≡ and_then (named es w text at) (λ v n. matched (f v) n)
+unfolding named given_by
+named_by f [] w text at = refl
+named_by f (e ∷ es) w text at = go (same w (bytes e.0)) (named_by f es w text at)
+  where
+    go : (t : Bool) → named (given_by f es) w text at ≡ and_then (named es w text at) (λ v n. matched (f v) n) → if t (matched (f e.1) at) (named (given_by f es) w text at) ≡ and_then (if t (matched e.1 at) (named es w text at)) (λ v n. matched (f v) n)
+    go true e = refl
+    go false e = e
 
--- a number that is none of the ten is at least 10
+-- a number that is none of the ten below 10 is at least 10
 step : (n k : ℕ) → n ≤ k → (k ≡ n → ⊥) → n + 1 ≤ k
 step n k h e = omega arith
 
@@ -77,7 +78,7 @@ past_ten k a b c d e f g h i j = step 9 k (step 8 k (step 7 k (step 6 k (step 5 
 pub in_unit_of : (q : Answer Relative) (m n : ℤ) (w text : List ℕ) (next : ℕ) → q ≡ in_unit m w text next → m ≡ n → q ≡ in_unit n w text next
 in_unit_of q m n w text next e f = rw (← f) e
 
-module _ (v : SecAndNsec) (next : ℕ) where
+module _ (v : SecAndNsec ℕ) (next : ℕ) where
   pub rounded_in : (r : Relative) (t u : Bool) → r ≡ rounded t (record { sec = v.sec; nsec = v.nsec }) → t ≡ u → v.sec ≤ 9223372036854775807 → matched r next ≡ if (ltb v.sec (2 ^ 63)) (matched (rounded u v) next) none
   rounded_in r t u e f h = rw (lt-ltb v.sec 9223372036854775808 (omega arith), ← f, e)
 

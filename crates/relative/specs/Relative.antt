@@ -22,7 +22,7 @@ direction = optional false (value true (spaced (quoted "ago")) <|> value false (
 -- ---- seconds with a fraction
 
 -- Document 01, items/relative.rs: `seconds` rounds down. True for minus.
-unfoldable pub rounded : Bool → SecAndNsec → Relative
+unfoldable pub rounded : Bool → SecAndNsec ℕ → Relative
 rounded false v = Seconds (pos v.sec) v.nsec
 rounded true v = if (eqb v.nsec 0) (Seconds (signed true v.sec) 0) (Seconds (signed true (v.sec + 1)) (1000000000 - v.nsec))
 

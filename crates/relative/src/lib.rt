@@ -55,15 +55,17 @@ fn signed_seconds(s: &[u8], at: usize, negative: bool) -> Option<(Relative, usiz
     Some((rounded(turned(ago, negative), v), at))
 }
 
-// The words for seconds, behind space.
+const SECOND_WORDS: [(&str, ()); 4] = [("seconds", ()), ("second", ()), ("sec", ()), ("secs", ())];
+
+// A word for seconds, behind space.
+#[tactic(auto, unfolding(crate::specs::Relative::second_word))]
 fn second_word(s: &[u8], at: usize) -> Option<usize>
     ensures { place_answer result ≡ second_word (lowered s.now) at }
 {
     let start = spaces::space(s, at);
-    let end = primitive::alpha1(s, start)?;
-    // its place in the table is all that is asked: no value stands beside a word, as `find_value` would want it
-    let k = words::find_word(s, start, end, b"seconds second sec secs ");
-    if k < 4 { Some(end) } else { None }
+    let (word, end) = primitive::alpha1(s, start)?;
+    words::find_value(word, &SECOND_WORDS)?;
+    Some(end)
 }
 
 // Whether a sign is a minus once `ago` has turned it.
@@ -74,7 +76,7 @@ fn turned(ago: bool, negative: bool) -> bool
 }
 
 // Seconds and nanoseconds with a sign, rounded down: a fraction of a second before is what is left of the second further back.
-fn rounded(negative: bool, v: SecAndNsec) -> Relative
+fn rounded(negative: bool, v: SecAndNsec<u64>) -> Relative
     requires { (v.sec < 2 ^ 63) × (v.nsec < 1000000000) }
     ensures { result ≡ rounded negative v }
 {

@@ -6,14 +6,16 @@
 
 #![tactic(auto)]
 
-ghost use Rattle.std.specs.Prelude.{◌≡◌, ℕ, ◌<◌, ◌≤◌, ◌^◌, List, length, neg_ℤ};
-ghost use Rattle.std.proofs.Math.Seq.{slice};
+pub mod unit;
+
+ghost use Rattle.std.specs.Prelude.{◌≡◌, ℕ, ◌<◌, ◌^◌, List, neg_ℤ};
 ghost use Rattle.std.specs.Int.Signed.{mag};
 ghost use Rattle.primitive.specs.Answer.{if, answer_of};
 ghost use Rattle.primitive.specs.Text.{lowered};
-ghost use Rattle.relative.specs.Relative.{parse, displacement, displaced, in_unit, stripped, days};
+ghost use Rattle.relative.specs.Relative.{parse, displacement, displaced, in_unit, stripped};
 
 use relative::Relative;
+use unit::Unit;
 
 #[tactic(auto, unfolding(relative::specs::Relative::parse))]
 pub fn parse(s: &[u8], at: usize) -> Option<(Relative, usize)>
@@ -37,9 +39,9 @@ fn displaced(s: &[u8], at: usize, n: i32) -> Option<(Relative, usize)>
     ensures { answer_of result ≡ displaced n (lowered s.now) at }
 {
     let start = spaces::space(s, at);
-    let end = primitive::alpha1(s, start)?;
+    let (word, end) = primitive::alpha1(s, start)?;
     let (ago, next) = relative::direction(s, end);
-    in_unit(s, start, end, multiplier(ago, n), next)
+    in_unit(word, multiplier(ago, n), next)
 }
 
 // n, or -n for `ago`.
@@ -50,52 +52,38 @@ fn multiplier(ago: bool, n: i32) -> i32
     if ago { -n } else { n }
 }
 
-// The unit that the word from `start` up to `end` names, n times. One `s` behind the unit is ignored.
-fn in_unit(s: &[u8], start: usize, end: usize, n: i32, next: usize) -> Option<(Relative, usize)>
-    requires { (start < end) × (end ≤ length s.now) }
-    ensures { answer_of result ≡ in_unit n (slice start end (lowered s.now)) (lowered s.now) next }
+const UNITS: [(&str, Unit); 10] = [
+    ("year", Unit::Year),
+    ("month", Unit::Month),
+    ("fortnight", Unit::Fortnight),
+    ("week", Unit::Week),
+    ("day", Unit::Day),
+    ("hour", Unit::Hour),
+    ("minute", Unit::Minute),
+    ("min", Unit::Minute),
+    ("second", Unit::Second),
+    ("sec", Unit::Second),
+];
+
+// The unit that a word names, n times. One `s` behind the unit is ignored.
+fn in_unit(word: &[u8], n: i32, next: usize) -> Option<(Relative, usize)>
+    ensures { (text : List ℕ) → answer_of result ≡ in_unit n (lowered word.now) text next }
 {
-    let stem = strip_suffix(s, start, end);
-    let k = words::find_word(
-        s,
-        start,
-        stem,
-        b"year month fortnight week day hour minute min second sec ",
-    );
-    // the place in the row of words: an enum of the units would be a third list of the same names
-    let unit = match k {
-        0 => Relative::Years(n),
-        1 => Relative::Months(n),
-        2 => return days(n, 14, next),
-        3 => return days(n, 7, next),
-        4 => Relative::Days(n),
-        5 => Relative::Hours(n),
-        6 => Relative::Minutes(n),
-        7 => Relative::Minutes(n),
-        8 => Relative::Seconds(n as i64, 0),
-        9 => Relative::Seconds(n as i64, 0),
-        _ => return None,
+    let unit = words::find_value(stem(word), &UNITS)?;
+    let relative = unit.times(n)?;
+    Some((relative, next))
+}
+
+// A word without an `s` at its end.
+fn stem(word: &[u8]) -> &[u8]
+    ensures { lowered result.now ≡ stripped (lowered word.now) }
+{
+    let Some((last, front)) = word.split_last() else {
+        return word;
     };
-    Some((unit, next))
-}
-
-// Where the word from `start` up to `end` ends without an `s` at its end.
-fn strip_suffix(s: &[u8], start: usize, end: usize) -> usize
-    requires { (start < end) × (end ≤ length s.now) }
-    ensures { slice start result (lowered s.now) ≡ stripped (slice start end (lowered s.now)) }
-{
-    if primitive::to_lower(s[end - 1]) == 115 {
-        end - 1
+    if primitive::to_lower(*last) == 115 {
+        front
     } else {
-        end
+        word
     }
-}
-
-// A unit of `worth` days, n times.
-#[tactic(auto, using(relative::proofs::Signed::days_fit, relative::proofs::Signed::days_over), unfolding(relative::specs::Relative::days))]
-fn days(n: i32, worth: u8, next: usize) -> Option<(Relative, usize)>
-    ensures { (text : List ℕ) → answer_of result ≡ days worth n text next }
-{
-    let total = n.checked_mul(i32::from(worth))?;
-    Some((Relative::Days(total), next))
 }

@@ -9,11 +9,11 @@
 ghost use Rattle.std.specs.Prelude.{◌≡◌, ◌+◌, ◌%◌};
 ghost use Rattle.primitive.specs.Answer.{matched, if, answer_of, stop_answer};
 ghost use Rattle.primitive.specs.Text.{lowered};
-ghost use Rattle.times.specs.Time.{below, hour24, hour12, minute, second, optional_second, optional_minute, optional_correction, offset_behind, minutes_behind, iso, meridiem, am_pm_time, parse};
+ghost use Rattle.times.specs.Time.{below, second, optional_second, optional_minute, optional_correction, offset_behind, minutes_behind, iso, meridiem, am_pm_time, parse};
 
-use primitive::Miss;
+use primitive::{Miss, SecAndNsec};
 use times::offset::Offset;
-use times::time::{SecNsec, Time};
+use times::time::Time;
 
 #[tactic(auto, using(times::proofs::Times::times), unfolding(times::specs::Time::parse))]
 pub fn parse(s: &[u8], at: usize) -> Result<(Time, usize), Miss>
@@ -26,11 +26,11 @@ pub fn parse(s: &[u8], at: usize) -> Result<(Time, usize), Miss>
 }
 
 // A time in 24 hours: an hour, and minutes behind a colon or else an offset.
-#[tactic(auto, using(times::proofs::Hours::hours))]
+#[tactic(auto, using(times::proofs::Hours::hours), unfolding(times::specs::Time::hour24))]
 pub fn iso(s: &[u8], at: usize) -> Result<(Time, usize), Miss>
     ensures { stop_answer result ≡ iso (lowered s.now) at }
 {
-    let (hour, at) = hour24(s, at).ok_or(Miss::NoMatch)?;
+    let (hour, at) = below(s, at, 24).ok_or(Miss::NoMatch)?;
     match spaces::colon(s, at) {
         Some(next) => clock(s, next, hour),
         None => hour_offset(s, at, hour),
@@ -53,10 +53,11 @@ fn hour_offset(s: &[u8], at: usize, hour: u8) -> Result<(Time, usize), Miss>
 }
 
 // The minutes behind an hour and a colon, then seconds or none, then a correction or none.
+#[tactic(auto, unfolding(times::specs::Time::minute))]
 fn clock(s: &[u8], at: usize, hour: u8) -> Result<(Time, usize), Miss>
     ensures { stop_answer result ≡ minutes_behind hour (lowered s.now) at }
 {
-    let (minute, at) = minute(s, at).ok_or(Miss::NoMatch)?;
+    let (minute, at) = below(s, at, 60).ok_or(Miss::NoMatch)?;
     let (v, at) = optional_second(s, at);
     let (offset, next) = optional_correction(s, at)?;
     let time = Time {
@@ -82,11 +83,11 @@ fn optional_correction(s: &[u8], at: usize) -> Result<(Option<Offset>, usize), M
 }
 
 // A time that ends with am or pm.
-#[tactic(auto, using(times::proofs::Times::times), unfolding(times::specs::Time::am_pm_time))]
+#[tactic(auto, using(times::proofs::Times::times), unfolding(times::specs::Time::am_pm_time, times::specs::Time::hour12))]
 fn am_pm_time(s: &[u8], at: usize) -> Result<(Time, usize), Miss>
     ensures { stop_answer result ≡ am_pm_time (lowered s.now) at }
 {
-    let (hour, at) = hour12(s, at).ok_or(Miss::NoMatch)?;
+    let (hour, at) = below(s, at, 13).ok_or(Miss::NoMatch)?;
     let (minute, at) = optional_minute(s, at);
     let (v, at) = optional_second(s, at);
     let (pm, next) = meridiem(s, at).ok_or(Miss::NoMatch)?;
@@ -124,48 +125,24 @@ fn meridiem(s: &[u8], at: usize) -> Option<(bool, usize)>
 }
 
 // Minutes behind a colon, or 0 where there are none.
-#[tactic(auto, using(times::proofs::Times::times), unfolding(times::specs::Time::optional_minute))]
+#[tactic(auto, using(times::proofs::Times::times), unfolding(times::specs::Time::optional_minute, times::specs::Time::minute))]
 fn optional_minute(s: &[u8], at: usize) -> (u8, usize)
     ensures { matched result.0 result.1 ≡ optional_minute (lowered s.now) at }
 {
     spaces::colon(s, at)
-        .and_then(|start| minute(s, start))
+        .and_then(|start| below(s, start, 60))
         .unwrap_or((0, at))
 }
 
 // Seconds behind a colon, or 0 where there are none.
 #[tactic(auto, using(times::proofs::Times::times), unfolding(times::specs::Time::optional_second))]
-fn optional_second(s: &[u8], at: usize) -> (SecNsec, usize)
+fn optional_second(s: &[u8], at: usize) -> (SecAndNsec<u8>, usize)
     ensures { matched result.0 result.1 ≡ optional_second (lowered s.now) at }
 {
-    let none = SecNsec { sec: 0, nsec: 0 };
+    let none = SecAndNsec { sec: 0, nsec: 0 };
     spaces::colon(s, at)
         .and_then(|start| second(s, start))
         .unwrap_or((none, at))
-}
-
-// A number of hours from 0 to 23.
-#[tactic(auto, using(times::proofs::Times::times), unfolding(times::specs::Time::hour24))]
-fn hour24(s: &[u8], at: usize) -> Option<(u8, usize)>
-    ensures { answer_of result ≡ hour24 (lowered s.now) at }
-{
-    below(s, at, 24)
-}
-
-// A number of hours from 0 to 12.
-#[tactic(auto, using(times::proofs::Times::times), unfolding(times::specs::Time::hour12))]
-fn hour12(s: &[u8], at: usize) -> Option<(u8, usize)>
-    ensures { answer_of result ≡ hour12 (lowered s.now) at }
-{
-    below(s, at, 13)
-}
-
-// A number of minutes from 0 to 59.
-#[tactic(auto, using(times::proofs::Times::times), unfolding(times::specs::Time::minute))]
-fn minute(s: &[u8], at: usize) -> Option<(u8, usize)>
-    ensures { answer_of result ≡ minute (lowered s.now) at }
-{
-    below(s, at, 60)
 }
 
 // A number below a limit, behind space.
@@ -179,13 +156,13 @@ fn below(s: &[u8], at: usize, limit: u8) -> Option<(u8, usize)>
 
 // A number of seconds from 0 to 59, with a fraction or without one.
 #[tactic(auto, using(times::proofs::Times::times), unfolding(times::specs::Time::second))]
-fn second(s: &[u8], at: usize) -> Option<(SecNsec, usize)>
+fn second(s: &[u8], at: usize) -> Option<(SecAndNsec<u8>, usize)>
     ensures { answer_of result ≡ second (lowered s.now) at }
 {
     let (v, next) = epoch::sec_and_nsec(s, spaces::space(s, at))?;
     let sec = v.sec;
     if sec < 60 {
-        let value = SecNsec {
+        let value = SecAndNsec {
             sec: sec as u8,
             nsec: v.nsec,
         };

@@ -1,17 +1,16 @@
 -- The laws of an offset's hours and minutes: their range, and what digits say. Assumes nothing.
 use native.Mathlib.Omega.{arith}
 use borrow.Author.Tests.{lt-ltb, le-leb, lt-leb, leb-true}
-use Prim.Native.Nat.{ℕ, ◌-◌, ◌/◌, ◌%◌, ◌<◌, ◌≤◌}
+use Prim.Native.Nat.{ℕ, ◌/◌, ◌%◌, ◌<◌, ◌≤◌}
 use mathlib.Core.Path.{◌≡◌, refl, ◌∙◌}
 use mathlib.Core.List.{List, []}
 use mathlib.Core.Bool.{Bool, true, false, ◌&&◌, ◌||◌}
 use lib.ListN.{length}
-use lib.Seq.{slice}
 use lib.Dec.{ltb, leb, eqb}
 use Rattle.primitive.specs.Answer.{Answer, matched, stop, if}
 use Rattle.primitive.specs.Text.{lowered}
-use Rattle.primitive.specs.Primitive.{dec_uint_str}
-use Rattle.primitive.proofs.Limits.{digits_length, limits}
+use Rattle.primitive.proofs.Limits.{limits}
+use Rattle.primitive.proofs.Lowered.{length_lowered}
 use Rattle.relative.proofs.Chain.{relatives}
 use Rattle.times.specs.Offset.{in_range, offset_of, digits_offset}
 use Rattle.times.specs.declared.offset.Offset.{Offset}
@@ -92,9 +91,8 @@ digits_anywhere q negative digits n text next e = e ∙ go (leb digits 2)
     go true = refl
     go false = refl
 
--- as many digits as the places from their start to their end
-pub digits_counted : (s : List ℕ) (start end : ℕ) (q : Answer Offset) (negative : Bool) (n next : ℕ) → matched (slice start end (lowered s)) end ≡ dec_uint_str (lowered s) start → q ≡ digits_offset negative (end - start) n [] next → q ≡ digits_offset negative (length (slice start end (lowered s))) n (lowered s) next
-digits_counted s start end q negative n next e f =
-    rw (digits_length s start end e) (digits_anywhere q negative (end - start) n (lowered s) next f)
+-- as many digits as were read
+pub digits_counted : (d : List ℕ) (q : Answer Offset) (negative : Bool) (n : ℕ) (text : List ℕ) (next : ℕ) → q ≡ digits_offset negative (length d) n [] next → q ≡ digits_offset negative (length (lowered d)) n text next
+digits_counted d q negative n text next f = rw (length_lowered d) (digits_anywhere q negative (length d) n text next f)
 
 pub ruleset offsets = (too_many_hours, too_many_minutes, full_day, part_of_day, offset_in, offset_out, offset_anywhere, hours_alone, hours_and_minutes, digits_counted, nothing_left, limits, relatives)

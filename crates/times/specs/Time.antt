@@ -7,7 +7,7 @@ use Rattle.primitive.specs.Epoch.{sec_and_nsec}
 use Rattle.times.specs.Offset.{certain, time_zone_correction, timezone_offset}
 use Rattle.times.specs.declared.offset.Offset.{Offset}
 use Rattle.times.specs.declared.time.Time.{Time}
-use Rattle.times.specs.declared.time.SecNsec.{SecNsec}
+use Rattle.primitive.specs.declared.SecAndNsec.{SecAndNsec}
 
 -- ---- hours, minutes, seconds
 
@@ -29,14 +29,14 @@ hour12 = below 13
 unfoldable pub minute : Reader ℕ
 minute = below 60
 
-unfoldable pub second : Reader SecNsec
+unfoldable pub second : Reader (SecAndNsec ℕ)
 second = do
   v ← spaced sec_and_nsec
   verify (ltb v.sec 60) (record { sec = v.sec; nsec = v.nsec })
 
 -- 29.3: "Alternatively, ':SECOND' can be omitted, in which case it is taken to be zero." Document 01, items/time.rs: ":60" isn't taken as
 -- seconds and is left unread.
-unfoldable pub optional_second : Reader SecNsec
+unfoldable pub optional_second : Reader (SecAndNsec ℕ)
 optional_second = optional (record { sec = 0; nsec = 0 }) (colon >> second)
 
 -- 29.3: "and ':MINUTE' may be omitted (taken to be zero)"

@@ -1,4 +1,4 @@
-// Times of day, and the seconds of one.
+// Times of day.
 
 use crate::offset::Offset;
 
@@ -9,11 +9,4 @@ pub struct Time {
     pub second: u8,
     pub nanosecond: u32,
     pub offset: Option<Offset>,
-}
-
-// Seconds below 60.
-#[derive(Clone, Copy)]
-pub struct SecNsec {
-    pub sec: u8,
-    pub nsec: u32,
 }

@@ -46,7 +46,7 @@ fn text_ordinal(s: &[u8], at: usize) -> Option<(i32, usize)>
     ensures { answer_of result ≡ text_ordinal (lowered s.now) at }
 {
     let start = spaces::space(s, at);
-    let end = primitive::alpha1(s, start)?;
-    let n = crate::find_value(s, start, end, &ORDINALS)?;
+    let (word, end) = primitive::alpha1(s, start)?;
+    let n = crate::find_value(word, &ORDINALS)?;
     Some((n, end))
 }

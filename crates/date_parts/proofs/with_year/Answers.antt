@@ -1,17 +1,16 @@
--- `with_year` is its definition's chain; the year is the same at every place. Assumes nothing.
+-- `with_year` is its definition's chain. Assumes nothing.
 use mathlib.Core.Path.{sym}
-use Rattle.dates.proofs.Years.{year_moved, year_none}
 use Rattle.dates.specs.Date.{with_year}
 use Rattle.date_parts.proofs.with_year.Goals as goal
 
 pub returns-in_err-year : goal.returns-in_err-year
 unfolding with_year
-returns-in_err-year c = rw (c.from_residual.ensures, year_none _ _ _ c.args.next c.in_err-year.ensures)
+returns-in_err-year c = λ text. rw (c.from_residual.ensures, ← c.in_err-year.ensures text c.args.next)
 
 pub returns-then-not-exists : goal.returns-then-not-exists
 unfolding with_year
-returns-then-not-exists c = simp (year_moved _ _ _ c.args.next _ _ c.in_ok-year.ensures, sym c.exists.ensures, c.if-not-exists.true)
+returns-then-not-exists c = λ text. simp (sym (c.in_ok-year.ensures text c.args.next), sym c.exists.ensures, c.if-not-exists.true)
 
 pub returns : goal.returns
 unfolding with_year
-returns c = simp (year_moved _ _ _ c.args.next _ _ c.in_ok-year.ensures, sym c.exists.ensures, c.if-not-exists.false)
+returns c = λ text. simp (sym (c.in_ok-year.ensures text c.args.next), sym c.exists.ensures, c.if-not-exists.false, c.dated_on.ensures)

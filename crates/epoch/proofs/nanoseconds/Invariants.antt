@@ -1,6 +1,5 @@
 -- The loop's invariant: `acc` with the digits left behind it has the value of all nine, and is below 10 to the power of those passed.
 -- Assumes nothing.
-use lib.Seq.{slice}
 use Rattle.primitive.proofs.Fractions.{nano_from}
 use Prim.Native.Nat.{◌<◌, ◌^◌, ◌≤◌}
 use mathlib.Core.Path.{◌≡◌}
@@ -9,4 +8,4 @@ use Rattle.primitive.specs.Epoch.{nanoseconds}
 use Rattle.epoch.proofs.nanoseconds.Given as goal
 
 abbrev pub invariant-loop-k : goal.invariant-loop-k
-invariant-loop-k l = (l.k ≤ 9) × (l.acc < 10 ^ l.k) × (nano_from l.acc l.s l.from l.to l.k ≡ nanoseconds (slice l.from l.to (lowered l.s)))
+invariant-loop-k l = (l.k ≤ 9) × (l.acc < 10 ^ l.k) × (nano_from l.acc l.digits l.k ≡ nanoseconds (lowered l.digits))

@@ -4,4 +4,6 @@ use Rattle.primitive.proofs.Values.{parse_over_digit}
 use Rattle.numbers.proofs.parse_uint.Goals as goal
 
 pub returns-then-max-d : goal.returns-then-max-d
-returns-then-max-d c = parse_over_digit _ _ _ _ _ c.loop-i.invariant.1 (omega arith) (omega arith) _ c.to_lower.ensures _ c.digit_value-d.ensures _ _ c.if-max-d.true
+returns-then-max-d c =
+    λ text at.
+    parse_over_digit _ _ _ _ _ c.loop-b.invariant.1 text (omega arith) (omega arith) _ c.to_lower.ensures _ c.digit_value-d.ensures _ _ c.if-max-d.true

@@ -1,5 +1,5 @@
--- `parse_uint` is its definition. The loop's invariant: `acc` with the digits from `i` on behind it has the value of all of them. Assumes nothing.
-use lib.Seq.{slice}
+-- `parse_uint` is its definition. The loop's invariant: `acc` with the digits that are left behind it has the value of all of them. Assumes nothing.
+use lib.ListN.{length}
 use Rattle.primitive.proofs.Values.{grown_from}
 use mathlib.Core.Path.{◌≡◌}
 use Prim.Native.Nat.{◌≤◌}
@@ -7,5 +7,5 @@ use Rattle.primitive.specs.Primitive.{decimal}
 use Rattle.primitive.specs.Text.{lowered}
 use Rattle.numbers.proofs.parse_uint.Given as goal
 
-abbrev pub invariant-loop-i : goal.invariant-loop-i
-invariant-loop-i l = (l.acc ≤ l.max) × (grown_from l.acc l.s l.i l.to ≡ decimal (slice l.from l.to (lowered l.s)))
+abbrev pub invariant-loop-b : goal.invariant-loop-b
+invariant-loop-b l = (l.acc ≤ l.max) × (grown_from l.acc l.digits l.b-index (length l.digits) ≡ decimal (lowered l.digits))

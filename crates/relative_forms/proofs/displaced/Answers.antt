@@ -5,17 +5,15 @@ use mir.Syntax.{w32}
 use mir.Val.{SFits}
 use mir.Facts.{to_z-of_z}
 use Rattle.primitive.specs.Answer.{if}
+use Rattle.primitive.specs.Text.{lowered}
 use Rattle.relative.proofs.Signed.{turned_fits}
 use Rattle.relative.proofs.Units.{turned}
 use Rattle.relative.specs.Relative.{displaced}
 use Rattle.relative_forms.proofs.displaced.Goals as goal
 
-pub returns-in_err-end : goal.returns-in_err-end
+pub returns-in_err-word : goal.returns-in_err-word
 unfolding displaced
-returns-in_err-end c = search turned
-
-pub in_unit-requires : goal.in_unit-requires
-in_unit-requires c = search turned
+returns-in_err-word c = search turned
 
 pub returns : goal.returns
 unfolding displaced
@@ -24,5 +22,5 @@ returns c =
     let m = c.multiplier.result in
     let e : m ≡ if c.direction-ago.result.0 (neg_ℤ s.args.n) s.args.n = rw (to_z-of_z s.ranges.n) at c.multiplier.ensures in
     let f : SFits w32 m = turned_fits c.direction-ago.result.0 s.args.n m s.ranges.n s.requires e in
-    let q = rw (to_z-of_z f) at c.in_unit.ensures in
+    let q = rw (to_z-of_z f) at (c.in_unit.ensures (lowered s.args.s.now)) in
     search turned

@@ -13,12 +13,12 @@ use Rattle.words.proofs.ordinal.text_ordinal.Goals as goal
 pub returns-in_err-n : goal.returns-in_err-n
 unfolding text_ordinal ordinals bytes lower lowered
 returns-in_err-n c =
-    rw (← c.space-start.ensures, ← c.in_ok-end.ensures, c.from_residual-in_err-n.ensures)
-    (ap (found_at c.in_ok-end.end) c.in_err-n.ensures ∙ beside_named _ _ _ ordinals _ refl)
+    rw (← c.space-start.ensures, ← c.in_ok-word.ensures, c.from_residual-in_err-n.ensures)
+    (ap (found_at c.in_ok-word.end) c.in_err-n.ensures ∙ beside_named _ _ _ ordinals _ refl)
 
 pub returns : goal.returns
 unfolding text_ordinal ordinals bytes lower lowered
 returns c =
     let fits : SFits w32 c.in_ok-n.n = search rules in
-    rw (← c.space-start.ensures, ← c.in_ok-end.ensures, to_z-of_z fits)
-    (ap (found_at c.in_ok-end.end) c.in_ok-n.ensures ∙ beside_named _ _ _ ordinals _ refl)
+    rw (← c.space-start.ensures, ← c.in_ok-word.ensures, to_z-of_z fits)
+    (ap (found_at c.in_ok-word.end) c.in_ok-n.ensures ∙ beside_named _ _ _ ordinals _ refl)

@@ -1,0 +1,2 @@
+-- The definitions of the crate `relative_forms`.
+pub mod Unit
