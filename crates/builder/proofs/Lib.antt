@@ -1,3 +1,4 @@
 pub mod Places
 pub mod DateAndTime
 pub mod Loops
+pub mod Weekdays

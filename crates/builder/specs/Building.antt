@@ -7,7 +7,7 @@ use Rattle.rules.specs.declared.Zone.{Zone}
 use Rattle.times.specs.declared.offset.Offset.{Offset}
 use Rattle.std.specs.Prelude.{ℕ, zero, suc, ◌+◌, ◌-◌, ◌%◌, Bool, true, false, List, [], ◌∷◌, eqb, ℤ, pos, negsuc, ◌+ℤ◌, ◌*ℤ◌}
 use Rattle.integers.specs.Integers.{in_i32}
-use Rattle.extended.specs.Outcome.{Outcome, accepted, refused, check, ◌>>=◌, ◌>>◌}
+use Rattle.extended.specs.Outcome.{Outcome, accepted, check, ◌>>=◌, ◌>>◌}
 use Rattle.extended.specs.Extended.{date, time, accept, with_date, with_time, with_offset, add_seconds, add_days, add_hours, add_minutes, add_years, add_months, weekday_monday0}
 use Rattle.extended.specs.declared.ExtendedDateTime.{ExtendedDateTime}
 use Rattle.primitive.specs.Answer.{if}

@@ -173,8 +173,11 @@ fn add_relatives(relatives: &[Relative], dt: ExtendedDateTime) -> Result<Extende
     Ok(dt)
 }
 
+// A record as far away as one relative item says. As a call, it would have `quick` put the item together in memory: 20 to 50 instructions a
+// text.
+#[inline(always)]
 #[tactic(auto, unfolding(crate::specs::Building::add_relative))]
-fn add_relative(relative: Relative, dt: ExtendedDateTime) -> Result<ExtendedDateTime, Refusal>
+pub fn add_relative(relative: Relative, dt: ExtendedDateTime) -> Result<ExtendedDateTime, Refusal>
     ensures { outcome_of result ≡ add_relative relative dt }
 {
     match relative {

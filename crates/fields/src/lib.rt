@@ -3,15 +3,60 @@
 
 #![tactic(auto)]
 
-ghost use Rattle.std.specs.Prelude.{◌≡◌, ◌<◌, get_or};
+ghost use Rattle.std.specs.Prelude.{◌≡◌, ◌+◌, ◌<◌, ℕ, get_or};
 ghost use Rattle.fields.specs.Fields.{little, signed, unsigned, small, fields_from, fields_at, found_of, digits_used};
 
 use items::Item;
+use std::array;
+
+// What an item is.
+pub mod kind {
+    pub const DATE: u8 = 1;
+
+    pub const TIME: u8 = 2;
+
+    pub const DATE_TIME: u8 = 3;
+
+    pub const WEEKDAY: u8 = 4;
+
+    pub const OFFSET: u8 = 5;
+
+    pub const LOCAL_ZONE: u8 = 6;
+
+    pub const RELATIVE: u8 = 7;
+
+    pub const PURE: u8 = 8;
+}
+
+// What a relative item counts.
+pub mod unit {
+    pub const YEARS: u8 = 1;
+
+    pub const MONTHS: u8 = 2;
+
+    pub const DAYS: u8 = 3;
+
+    pub const HOURS: u8 = 4;
+
+    pub const MINUTES: u8 = 5;
+
+    pub const SECONDS: u8 = 6;
+}
+
+// The bits of `flags`: a date has a year, a time an offset, and an offset lies west of UTC.
+pub mod flag {
+    pub const YEAR: u8 = 1;
+
+    pub const OFFSET: u8 = 2;
+
+    pub const WEST: u8 = 4;
+}
 
 #[derive(Clone, Copy, Default, PartialEq, Eq)]
 pub struct Fields {
+    // One of `kind`.
     pub kind: u8,
-    // The weekday, or the unit of a relative item.
+    // The weekday from Monday 0, or the `unit` of a relative item.
     pub which: u8,
     pub month: u8,
     pub day: u8,
@@ -38,50 +83,20 @@ fn byte_at(bytes: &[u8], at: usize) -> u8
     bytes.get(at).copied().unwrap_or(0)
 }
 
-// The bytes from a place on, little-endian.
-#[tactic(auto, unfolding(crate::specs::Fields::little))]
-fn u16_from(bytes: &[u8], at: usize) -> u16
-    requires { at < 1099511627776 }
-    ensures { result ≡ little 2 at bytes.now }
+// N bytes from a place on, each 0 behind the last.
+fn row<const N: usize>(bytes: &[u8], at: usize) -> [u8; N]
+    requires { at + N < 1099511627780 }
+    ensures { (i : ℕ) → i < N → get_or result i 0 ≡ get_or bytes.now (at + i) 0 }
 {
-    u16::from_le_bytes([byte_at(bytes, at), byte_at(bytes, at + 1)])
-}
-
-#[tactic(auto, unfolding(crate::specs::Fields::little))]
-fn u32_from(bytes: &[u8], at: usize) -> u32
-    requires { at < 1099511627774 }
-    ensures { result ≡ little 4 at bytes.now }
-{
-    u32::from_le_bytes([
-        byte_at(bytes, at),
-        byte_at(bytes, at + 1),
-        byte_at(bytes, at + 2),
-        byte_at(bytes, at + 3),
-    ])
-}
-
-#[tactic(auto, unfolding(crate::specs::Fields::little))]
-fn u64_from(bytes: &[u8], at: usize) -> u64
-    requires { at < 1099511627770 }
-    ensures { result ≡ little 8 at bytes.now }
-{
-    u64::from_le_bytes([
-        byte_at(bytes, at),
-        byte_at(bytes, at + 1),
-        byte_at(bytes, at + 2),
-        byte_at(bytes, at + 3),
-        byte_at(bytes, at + 4),
-        byte_at(bytes, at + 5),
-        byte_at(bytes, at + 6),
-        byte_at(bytes, at + 7),
-    ])
+    array::from_fn(|i| byte_at(bytes, at + i))
 }
 
 // A number of the header.
+#[tactic(auto, unfolding(crate::specs::Fields::little))]
 pub fn u16_at(bytes: &[u8], at: u8) -> u16
     ensures { result ≡ little 2 at bytes.now }
 {
-    u16_from(bytes, at as usize)
+    u16::from_le_bytes(row(bytes, usize::from(at)))
 }
 
 #[tactic(auto, unfolding(crate::specs::Fields::signed))]
@@ -106,7 +121,7 @@ pub fn as_small(n: u64) -> Option<i32>
     i32::try_from(signed(n)).ok()
 }
 
-#[tactic(auto, unfolding(crate::specs::Fields::fields_from))]
+#[tactic(auto, unfolding(crate::specs::Fields::fields_from, crate::specs::Fields::little))]
 fn fields_from(bytes: &[u8], at: usize) -> Fields
     requires { at < 549755813888 }
     ensures { result ≡ fields_from bytes.now at }
@@ -115,16 +130,16 @@ fn fields_from(bytes: &[u8], at: usize) -> Fields
     let which = byte_at(bytes, at + 1);
     let month = byte_at(bytes, at + 2);
     let day = byte_at(bytes, at + 3);
-    let year = u32_from(bytes, at + 4);
+    let year = u32::from_le_bytes(row(bytes, at + 4));
     let hour = byte_at(bytes, at + 8);
     let minute = byte_at(bytes, at + 9);
     let second = byte_at(bytes, at + 10);
     let flags = byte_at(bytes, at + 11);
-    let nanosecond = u32_from(bytes, at + 12);
+    let nanosecond = u32::from_le_bytes(row(bytes, at + 12));
     let offset_hours = byte_at(bytes, at + 16);
     let offset_minutes = byte_at(bytes, at + 17);
-    let length = u16_from(bytes, at + 18);
-    let amount = u64_from(bytes, at + 20);
+    let length = u16::from_le_bytes(row(bytes, at + 18));
+    let amount = u64::from_le_bytes(row(bytes, at + 20));
     Fields {
         kind,
         which,

@@ -4,10 +4,10 @@
 
 ghost use Rattle.std.specs.Prelude.{◌≡◌, ◌≤◌};
 ghost use Rattle.items.specs.Items.{day_index};
-ghost use Rattle.fields.specs.Fields.{unsigned, year_flag, year_field, sign_flag, offset_flags, hours_field, minutes_field, with_date, with_time, of_zone, counted, of_relative, of_pure, fields_of, same};
+ghost use Rattle.fields.specs.Fields.{unsigned, sign_flag, with_date, with_time, of_zone, counted, of_relative, of_pure, fields_of, same};
 
 use dates::date::Date;
-use fields::Fields;
+use fields::{Fields, flag, kind, unit};
 use items::{Item, Pure, Weekday};
 use relative::Relative;
 use times::offset::Offset;
@@ -19,12 +19,12 @@ pub fn fields_of(item: Item) -> Fields
     ensures { result ≡ fields_of item }
 {
     match item {
-        Item::Date(date) => with_date(1, date),
-        Item::Time(time) => with_time(counted(2, 0, 0, 0), time),
-        Item::DateTime(both) => with_time(with_date(3, both.date), both.time),
+        Item::Date(date) => with_date(kind::DATE, date),
+        Item::Time(time) => with_time(counted(kind::TIME, 0, 0, 0), time),
+        Item::DateTime(both) => with_time(with_date(kind::DATE_TIME, both.date), both.time),
         Item::Weekday(weekday) => of_weekday(weekday),
         Item::Offset(offset) => of_zone(offset),
-        Item::LocalZone => counted(6, 0, 0, 0),
+        Item::LocalZone => counted(kind::LOCAL_ZONE, 0, 0, 0),
         Item::Relative(relative) => of_relative(relative),
         Item::Pure(pure) => of_pure(pure),
     }
@@ -50,8 +50,8 @@ fn with_date(kind: u8, date: Date) -> Fields
         kind,
         month: date.month,
         day: date.day,
-        year: year_field(date.year),
-        flags: year_flag(date.year),
+        year: date.year.unwrap_or(0),
+        flags: date.year.map_or(0, |_| flag::YEAR),
         ..Fields::default()
     }
 }
@@ -61,14 +61,17 @@ fn with_time(fields: Fields, time: Time) -> Fields
     requires { fields.flags ≤ 1 }
     ensures { result ≡ with_time fields time }
 {
+    let flags = time
+        .offset
+        .map_or(0, |o| flag::OFFSET + sign_flag(o.negative));
     Fields {
         hour: time.hour,
         minute: time.minute,
         second: time.second,
-        flags: fields.flags + offset_flags(time.offset),
+        flags: fields.flags + flags,
         nanosecond: time.nanosecond,
-        offset_hours: hours_field(time.offset),
-        offset_minutes: minutes_field(time.offset),
+        offset_hours: time.offset.map_or(0, |o| o.hours),
+        offset_minutes: time.offset.map_or(0, |o| o.minutes),
         ..fields
     }
 }
@@ -78,7 +81,7 @@ fn of_zone(zone: Offset) -> Fields
     ensures { result ≡ of_zone zone }
 {
     Fields {
-        kind: 5,
+        kind: kind::OFFSET,
         flags: sign_flag(zone.negative),
         offset_hours: zone.hours,
         offset_minutes: zone.minutes,
@@ -90,7 +93,7 @@ fn of_weekday(weekday: Weekday) -> Fields
     ensures { result ≡ counted 4 (day_index weekday.day) (unsigned weekday.offset) 0 }
 {
     let amount = fields::unsigned(i64::from(weekday.offset));
-    counted(4, items::day_index(weekday.day), amount, 0)
+    counted(kind::WEEKDAY, items::day_index(weekday.day), amount, 0)
 }
 
 #[tactic(auto, unfolding(fields::specs::Fields::of_relative))]
@@ -98,11 +101,11 @@ fn of_relative(relative: Relative) -> Fields
     ensures { result ≡ of_relative relative }
 {
     match relative {
-        Relative::Years(n) => of_unit(1, n),
-        Relative::Months(n) => of_unit(2, n),
-        Relative::Days(n) => of_unit(3, n),
-        Relative::Hours(n) => of_unit(4, n),
-        Relative::Minutes(n) => of_unit(5, n),
+        Relative::Years(n) => of_unit(unit::YEARS, n),
+        Relative::Months(n) => of_unit(unit::MONTHS, n),
+        Relative::Days(n) => of_unit(unit::DAYS, n),
+        Relative::Hours(n) => of_unit(unit::HOURS, n),
+        Relative::Minutes(n) => of_unit(unit::MINUTES, n),
         Relative::Seconds(n, nanosecond) => of_seconds(n, nanosecond),
     }
 }
@@ -110,68 +113,31 @@ fn of_relative(relative: Relative) -> Fields
 fn of_unit(unit: u8, n: i32) -> Fields
     ensures { result ≡ counted 7 unit (unsigned n) 0 }
 {
-    counted(7, unit, fields::unsigned(i64::from(n)), 0)
+    counted(kind::RELATIVE, unit, fields::unsigned(i64::from(n)), 0)
 }
 
 fn of_seconds(n: i64, nanosecond: u32) -> Fields
     ensures { result ≡ counted 7 6 (unsigned n) nanosecond }
 {
-    counted(7, 6, fields::unsigned(n), nanosecond)
+    let amount = fields::unsigned(n);
+    counted(kind::RELATIVE, unit::SECONDS, amount, nanosecond)
 }
 
 fn of_pure(pure: Pure) -> Fields
     ensures { result ≡ of_pure pure }
 {
     Fields {
-        kind: 8,
+        kind: kind::PURE,
         length: pure.length,
         ..Fields::default()
     }
 }
 
-fn year_flag(year: Option<u32>) -> u8
-    ensures { (result ≡ year_flag year) × (result ≤ 1) }
-{
-    year.is_some() as u8
-}
-
-fn year_field(year: Option<u32>) -> u32
-    ensures { result ≡ year_field year }
-{
-    year.unwrap_or(0)
-}
-
+// The flag of an offset.
 fn sign_flag(negative: bool) -> u8
     ensures { (result ≡ sign_flag negative) × (result ≤ 4) }
 {
-    if negative { 4 } else { 0 }
-}
-
-fn offset_flags(offset: Option<Offset>) -> u8
-    ensures { (result ≡ offset_flags offset) × (result ≤ 6) }
-{
-    match offset {
-        Some(offset) => 2 + sign_flag(offset.negative),
-        None => 0,
-    }
-}
-
-fn hours_field(offset: Option<Offset>) -> u8
-    ensures { result ≡ hours_field offset }
-{
-    match offset {
-        Some(offset) => offset.hours,
-        None => 0,
-    }
-}
-
-fn minutes_field(offset: Option<Offset>) -> u8
-    ensures { result ≡ minutes_field offset }
-{
-    match offset {
-        Some(offset) => offset.minutes,
-        None => 0,
-    }
+    if negative { flag::WEST } else { 0 }
 }
 
 #[tactic(auto, unfolding(fields::specs::Fields::same, fields::specs::Fields::same_date, fields::specs::Fields::same_later, fields::specs::Fields::same_time, fields::specs::Fields::same_rest))]

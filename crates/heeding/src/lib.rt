@@ -3,7 +3,8 @@
 
 #![tactic(auto)]
 
-ghost use Rattle.std.specs.Prelude.{◌≡◌, ◌+◌, ◌<◌, ◌≤◌, ◌++◌, length};
+ghost use Rattle.std.specs.Prelude.{◌≡◌, ℕ, List, ◌+◌, ◌<◌, ◌≤◌, [], ◌++◌, length};
+ghost use Rattle.std.proofs.Math.Seq.{slice};
 ghost use Rattle.primitive.specs.Text.{lowered};
 ghost use Rattle.extended.specs.Placed.{fine};
 ghost use Rattle.extended.specs.Refusals.{code, outcome_of, placed_of};
@@ -17,16 +18,44 @@ use relative::Relative;
 use rules::{DateTimeBuilder, Zone};
 use times::time::Time;
 
-// No item yet.
-pub fn start() -> Result<DateTimeBuilder, PlacedRefusal>
-    ensures { placed_of result ≡ fine empty }
-{
-    Ok(DateTimeBuilder::new())
+// What the items give so far: the builder that they make, or the first broken rule, and the relative ones, 64 at most.
+#[derive(Drop)]
+pub struct Heeded {
+    pub standing: Result<DateTimeBuilder, PlacedRefusal>,
+    pub relatives: ArrayVec<Relative, 64>,
 }
 
-// One item more, and its index. The first broken rule stays.
+impl Heeded {
+    // No item yet.
+    pub fn new() -> Heeded
+        ensures standing { placed_of result.standing ≡ fine empty }
+        ensures relatives { result.relatives.items ≡ [] }
+    {
+        Heeded {
+            standing: Ok(DateTimeBuilder::new()),
+            relatives: ArrayVec::new(),
+        }
+    }
+
+    // One item more, and its index. A relative item is kept behind the others, of which there are 64 at most.
+    pub fn heed(&mut self, digits: &[u8], item: Item, index: usize)
+        ensures standing { placed_of self.new.standing ≡ heed (lowered digits.now) index item (placed_of self.old.standing) }
+        ensures kept { length self.old.relatives.items < 64 → self.new.relatives.items ≡ self.old.relatives.items ++ relative_of item }
+        ensures full { 64 ≤ length self.old.relatives.items → self.new.relatives.items ≡ self.old.relatives.items }
+        ensures few { length self.new.relatives.items ≤ length self.old.relatives.items + 1 }
+    {
+        self.standing = under_rules(self.standing, digits, item, index);
+        if let Item::Relative(relative) = item {
+            if !self.relatives.is_full() {
+                self.relatives.push(relative);
+            }
+        }
+    }
+}
+
+// The rules of one item more. The first broken one stays.
 #[tactic(auto, unfolding(rules::specs::Rules::heed))]
-pub fn heed(
+fn under_rules(
     standing: Result<DateTimeBuilder, PlacedRefusal>,
     digits: &[u8],
     item: Item,
@@ -49,20 +78,7 @@ fn rule_place(refusal: Refusal, index: usize) -> usize
     }
 }
 
-// A relative item behind those that are kept, of which there are 64 at most. An item of another kind is not kept.
-pub fn keep_relative(relatives: &mut ArrayVec<Relative, 64>, item: Item)
-    ensures kept { length relatives.old.items < 64 → relatives.new.items ≡ relatives.old.items ++ relative_of item }
-    ensures full { 64 ≤ length relatives.old.items → relatives.new.items ≡ relatives.old.items }
-    ensures few { length relatives.new.items ≤ length relatives.old.items + 1 }
-{
-    if let Item::Relative(relative) = item {
-        if !relatives.is_full() {
-            relatives.push(relative);
-        }
-    }
-}
-
-// One item more. A relative item is kept by the caller.
+// One item more under its rule. A relative item has none.
 #[tactic(auto, unfolding(rules::specs::Rules::set_item))]
 fn set_item(builder: DateTimeBuilder, digits: &[u8], item: Item) -> Result<DateTimeBuilder, Refusal>
     ensures { outcome_of result ≡ set_item (lowered digits.now) builder item }
@@ -87,7 +103,8 @@ fn set_pure(builder: DateTimeBuilder, digits: &[u8], pure: Pure) -> Result<DateT
     match builder.date {
         Some(date) if date.year.is_none() => {
             let from = usize::from(pure.start);
-            set_pure_year(builder, digits, date, from, from + usize::from(pure.length))
+            let to = from + usize::from(pure.length);
+            set_pure_year(builder, primitive::part(digits, from, to), date)
         }
         _ => set_pure_time(builder, digits, pure),
     }
@@ -96,14 +113,12 @@ fn set_pure(builder: DateTimeBuilder, digits: &[u8], pure: Pure) -> Result<DateT
 #[tactic(auto, unfolding(rules::specs::Rules::set_pure_year))]
 fn set_pure_year(
     builder: DateTimeBuilder,
-    digits: &[u8],
+    year: &[u8],
     date: Date,
-    from: usize,
-    to: usize,
 ) -> Result<DateTimeBuilder, Refusal>
-    ensures { outcome_of result ≡ set_pure_year (lowered digits.now) builder date from to }
+    ensures { (digits : List ℕ) (from to : ℕ) → lowered year.now ≡ slice from to digits → outcome_of result ≡ set_pure_year digits builder date from to }
 {
-    let (year, _) = dates::year::year_from_str(digits, from, to).ok_or(Refusal::Over)?;
+    let year = dates::year::year_from_str(year).ok_or(Refusal::Over)?;
     let date = Date {
         year: Some(year),
         ..date
@@ -131,37 +146,32 @@ fn set_pure_time(
     let from = usize::from(pure.start);
     let to = from + usize::from(pure.length);
     if pure.length <= 2 {
-        return set_hour(builder, digits, from, to);
+        return set_hour(builder, primitive::part(digits, from, to));
     }
-    set_hour_and_minute(builder, digits, from, to - 2, to)
+    let hour = primitive::part(digits, from, to - 2);
+    let minute = primitive::part(digits, to - 2, to);
+    set_hour_and_minute(builder, hour, minute)
 }
 
-#[tactic(auto, using(primitive::proofs::Numbers::parse_limit), unfolding(rules::specs::Rules::set_hour))]
-fn set_hour(
-    builder: DateTimeBuilder,
-    digits: &[u8],
-    from: usize,
-    to: usize,
-) -> Result<DateTimeBuilder, Refusal>
-    ensures { outcome_of result ≡ set_hour (lowered digits.now) builder from to }
+#[tactic(auto, unfolding(rules::specs::Rules::set_hour))]
+fn set_hour(builder: DateTimeBuilder, hour: &[u8]) -> Result<DateTimeBuilder, Refusal>
+    ensures { (digits : List ℕ) (from to : ℕ) → lowered hour.now ≡ slice from to digits → outcome_of result ≡ set_hour digits builder from to }
 {
-    let (hour, _) = numbers::parse_uint(digits, from, to, 23).ok_or(Refusal::Pure)?;
-    set_clock(builder, hour as u8, 0)
+    let hour = numbers::parse_u8(hour, 23).ok_or(Refusal::Pure)?;
+    set_clock(builder, hour, 0)
 }
 
-#[tactic(auto, using(primitive::proofs::Numbers::parse_limit), unfolding(rules::specs::Rules::set_hour_and_minute))]
+#[tactic(auto, unfolding(rules::specs::Rules::set_hour_and_minute))]
 fn set_hour_and_minute(
     builder: DateTimeBuilder,
-    digits: &[u8],
-    from: usize,
-    middle: usize,
-    to: usize,
+    hour: &[u8],
+    minute: &[u8],
 ) -> Result<DateTimeBuilder, Refusal>
-    ensures { outcome_of result ≡ set_hour_and_minute (lowered digits.now) builder from middle to }
+    ensures { (digits : List ℕ) (from middle to : ℕ) → lowered hour.now ≡ slice from middle digits → lowered minute.now ≡ slice middle to digits → outcome_of result ≡ set_hour_and_minute digits builder from middle to }
 {
-    let (hour, _) = numbers::parse_uint(digits, from, middle, 23).ok_or(Refusal::Pure)?;
-    let (minute, _) = numbers::parse_uint(digits, middle, to, 59).ok_or(Refusal::Pure)?;
-    set_clock(builder, hour as u8, minute as u8)
+    let hour = numbers::parse_u8(hour, 23).ok_or(Refusal::Pure)?;
+    let minute = numbers::parse_u8(minute, 59).ok_or(Refusal::Pure)?;
+    set_clock(builder, hour, minute)
 }
 
 fn set_clock(builder: DateTimeBuilder, hour: u8, minute: u8) -> Result<DateTimeBuilder, Refusal>

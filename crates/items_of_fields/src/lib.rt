@@ -8,14 +8,13 @@ ghost use Rattle.std.specs.Prelude.{◌≡◌};
 ghost use Rattle.fields.specs.Fields.{year_of, date_of, offset_of, time_offset_of, time_of, day_of, weekday_of, unit_of, relative_of, item_of, date_in_range, offset_in_range, time_in_range, zone_in_range, pure_in_range, in_range, fitting, unpacked, found_of};
 
 use dates::date::Date;
-use fields::Fields;
+use extended::GNU_MAX_YEAR;
+use fields::{Fields, flag, kind, unit};
 use items::combined::DateTime;
 use items::{Day, Item, Pure, Weekday};
 use relative::Relative;
 use times::offset::Offset;
 use times::time::Time;
-
-const LAST_YEAR: u32 = 2147485547;
 
 // The item, if the fields are those of one in range.
 #[tactic(auto, unfolding(fields::specs::Fields::unpacked))]
@@ -31,17 +30,17 @@ fn item_of(fields: Fields, used: u16) -> Option<Item>
     ensures { found_of result ≡ item_of fields used }
 {
     match fields.kind {
-        1 => Some(Item::Date(date_of(fields))),
-        2 => Some(Item::Time(time_of(fields))),
-        3 => Some(Item::DateTime(DateTime {
+        kind::DATE => Some(Item::Date(date_of(fields))),
+        kind::TIME => Some(Item::Time(time_of(fields))),
+        kind::DATE_TIME => Some(Item::DateTime(DateTime {
             date: date_of(fields),
             time: time_of(fields),
         })),
-        4 => weekday_of(fields),
-        5 => Some(Item::Offset(offset_of(fields))),
-        6 => Some(Item::LocalZone),
-        7 => relative_of(fields),
-        8 => Some(Item::Pure(Pure {
+        kind::WEEKDAY => weekday_of(fields),
+        kind::OFFSET => Some(Item::Offset(offset_of(fields))),
+        kind::LOCAL_ZONE => Some(Item::LocalZone),
+        kind::RELATIVE => relative_of(fields),
+        kind::PURE => Some(Item::Pure(Pure {
             start: used,
             length: fields.length,
         })),
@@ -53,10 +52,7 @@ fn item_of(fields: Fields, used: u16) -> Option<Item>
 fn year_of(fields: Fields) -> Option<u32>
     ensures { result ≡ year_of fields }
 {
-    if fields.flags / 1 % 2 == 1 {
-        return Some(fields.year);
-    }
-    None
+    (fields.flags & flag::YEAR != 0).then_some(fields.year)
 }
 
 #[tactic(auto, unfolding(fields::specs::Fields::date_of))]
@@ -70,24 +66,22 @@ fn date_of(fields: Fields) -> Date
     }
 }
 
+#[tactic(auto, using(crate::proofs::Flags::flag_4))]
 fn offset_of(fields: Fields) -> Offset
     ensures { result ≡ offset_of fields }
 {
     Offset {
-        negative: fields.flags / 4 % 2 == 1,
+        negative: fields.flags & flag::WEST != 0,
         hours: fields.offset_hours,
         minutes: fields.offset_minutes,
     }
 }
 
-#[tactic(auto, unfolding(fields::specs::Fields::time_offset_of))]
+#[tactic(auto, using(crate::proofs::Flags::flag_2), unfolding(fields::specs::Fields::time_offset_of))]
 fn time_offset_of(fields: Fields) -> Option<Offset>
     ensures { result ≡ time_offset_of fields }
 {
-    if fields.flags / 2 % 2 == 1 {
-        return Some(offset_of(fields));
-    }
-    None
+    (fields.flags & flag::OFFSET != 0).then_some(offset_of(fields))
 }
 
 #[tactic(auto, unfolding(fields::specs::Fields::time_of))]
@@ -116,7 +110,7 @@ fn weekday_of(fields: Fields) -> Option<Item>
 fn relative_of(fields: Fields) -> Option<Item>
     ensures { found_of result ≡ relative_of fields }
 {
-    if fields.which == 6 {
+    if fields.which == unit::SECONDS {
         let seconds = fields::signed(fields.amount);
         return Some(Item::Relative(Relative::Seconds(seconds, fields.nanosecond)));
     }
@@ -127,13 +121,12 @@ fn relative_of(fields: Fields) -> Option<Item>
 fn fitting(fields: Fields, item: Item) -> Option<Item>
     ensures { found_of result ≡ fitting fields item }
 {
-    if in_range(item) && fields_of_items::same(fields_of_items::fields_of(item), fields) {
-        return Some(item);
-    }
-    None
+    (in_range(item) && fields_of_items::same(fields_of_items::fields_of(item), fields)).then_some(
+        item,
+    )
 }
 
-// `TryFrom` would want an error type that nobody reads.
+// The caller wants an Option: `TryFrom` would have an error, made only to be dropped.
 #[tactic(auto, unfolding(fields::specs::Fields::day_of, fields::specs::Fields::later_day))]
 fn day_of(n: u8) -> Option<Day>
     ensures { found_of result ≡ day_of n }
@@ -155,11 +148,11 @@ fn unit_of(unit: u8, n: i32) -> Option<Item>
     ensures { found_of result ≡ unit_of unit n }
 {
     match unit {
-        1 => Some(Item::Relative(Relative::Years(n))),
-        2 => Some(Item::Relative(Relative::Months(n))),
-        3 => Some(Item::Relative(Relative::Days(n))),
-        4 => Some(Item::Relative(Relative::Hours(n))),
-        5 => Some(Item::Relative(Relative::Minutes(n))),
+        unit::YEARS => Some(Item::Relative(Relative::Years(n))),
+        unit::MONTHS => Some(Item::Relative(Relative::Months(n))),
+        unit::DAYS => Some(Item::Relative(Relative::Days(n))),
+        unit::HOURS => Some(Item::Relative(Relative::Hours(n))),
+        unit::MINUTES => Some(Item::Relative(Relative::Minutes(n))),
         _ => None,
     }
 }
@@ -184,10 +177,8 @@ fn in_range(item: Item) -> bool
 fn date_in_range(date: Date) -> bool
     ensures { result ≡ date_in_range date.year date.month date.day }
 {
-    match date.year {
-        Some(year) => year <= LAST_YEAR && date_parts::exists(year, date.month, date.day),
-        None => date_parts::exists(2000, date.month, date.day),
-    }
+    date.year.is_none_or(|year| year <= GNU_MAX_YEAR)
+        && date_parts::exists(date.year.unwrap_or(2000), date.month, date.day)
 }
 
 #[tactic(auto, unfolding(fields::specs::Fields::time_in_range))]
@@ -205,10 +196,7 @@ fn time_in_range(time: Time) -> bool
 fn offset_in_range(offset: Option<Offset>) -> bool
     ensures { result ≡ offset_in_range offset }
 {
-    match offset {
-        Some(offset) => times::offset::in_range(u64::from(offset.hours), u64::from(offset.minutes)),
-        None => true,
-    }
+    offset.is_none_or(|o| times::offset::in_range(u64::from(o.hours), u64::from(o.minutes)))
 }
 
 #[tactic(auto, unfolding(fields::specs::Fields::zone_in_range))]

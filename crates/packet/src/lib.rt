@@ -1,7 +1,7 @@
 // The scheduler's packet: items that arrive already split, little-endian.
 //
 // - Header: the number of items, the place of the items (8), the number of digits and the place of the digits, 2 bytes each.
-// - Items of 28 bytes, as `Fields` has them, and the digits of the pure numbers, to the packet's end.
+// - Items of 28 bytes, as `fields::Fields` has them, and the digits of the pure numbers, to the packet's end.
 //
 // The items are walked where they lie: nothing is copied but the item at hand.
 
@@ -10,30 +10,12 @@
 ghost use Rattle.std.specs.Prelude.{◌≡◌, ◌<◌, ◌≤◌, length};
 ghost use Rattle.primitive.specs.Text.{lowered};
 ghost use Rattle.extended.specs.Refusals.{outcome_of, placed_of};
-ghost use Rattle.fields.specs.Fields.{fields_at, found_of};
+ghost use Rattle.fields.specs.Fields.{found_of};
 ghost use Rattle.packet.specs.Packet.{header, digits_stand, item_at, build_items, read_packet};
 
-use arrayvec::ArrayVec;
 use extended::{ExtendedDateTime, PlacedRefusal, Refusal};
-use fields::Fields;
+use heeding::Heeded;
 use items::Item;
-use relative::Relative;
-
-// The packet, and the index of the item that is next.
-#[derive(Clone, Copy)]
-pub struct Packet<'a> {
-    pub bytes: &'a [u8],
-    pub index: u32,
-}
-
-impl<'a> Packet<'a> {
-    // The fields of the item, read where they lie.
-    fn fields(self) -> Fields
-        ensures { result ≡ fields_at self.entry.bytes.now self.entry.index }
-    {
-        fields::fields_at(self.bytes, self.index)
-    }
-}
 
 #[tactic(auto, using(crate::proofs::Steps::steps))]
 pub fn read_packet(packet: &[u8], base: ExtendedDateTime) -> Result<ExtendedDateTime, PlacedRefusal>
@@ -83,23 +65,21 @@ fn build_items(
     requires digits_len_bound { length digits.now < 65536 }
     ensures { placed_of result ≡ build_items packet.now (lowered digits.now) count base }
 {
-    let mut standing = heeding::start();
-    let mut relatives = ArrayVec::new();
+    let mut heeded = Heeded::new();
     let mut used = 0;
     // the items are no slice: each is read out of the bytes by its index, which is its place too
     for i in 0..count {
         let Some(item) = next_item(packet, i, digits, used) else {
             return Err(Refusal::Packet.at(i));
         };
-        standing = heeding::heed(standing, digits, item, i);
-        heeding::keep_relative(&mut relatives, item);
+        heeded.heed(digits, item, i);
         used += fields::digits_used(item);
     }
     let is_left = used < digits.len();
     if is_left {
         return Err(Refusal::Packet.at(count));
     }
-    builder::build(standing, relatives.as_slice(), base)
+    builder::build(heeded.standing, heeded.relatives.as_slice(), base)
 }
 
 // The item of an index, behind items that used up so many digits.
@@ -110,11 +90,8 @@ fn next_item(packet: &[u8], index: usize, digits: &[u8], used: usize) -> Option<
     requires digits_len_bound { length digits.now < 65536 }
     ensures { found_of result ≡ item_at packet.now (lowered digits.now) index used }
 {
-    let here = Packet {
-        bytes: packet,
-        index: index as u32,
-    };
-    let item = items_of_fields::unpack(here.fields(), used as u16)?;
+    let fields = fields::fields_at(packet, index as u32);
+    let item = items_of_fields::unpack(fields, used as u16)?;
     if digits_stand(digits, used, fields::digits_used(item)) {
         return Some(item);
     }

@@ -8,10 +8,9 @@ ghost use Rattle.primitive.specs.Text.{lower, lowered};
 ghost use Rattle.extended.specs.Refusals.{placed_of};
 ghost use Rattle.reading.specs.Reading.{ascii, ascii_end, build_text, read_text};
 
-use arrayvec::ArrayVec;
 use extended::{ExtendedDateTime, PlacedRefusal, Refusal};
+use heeding::Heeded;
 use primitive::Miss;
-use relative::Relative;
 
 // The longest text that is read.
 const MAX_LENGTH: usize = 4096;
@@ -60,8 +59,7 @@ fn is_ascii(byte: u8) -> bool
 fn build_text(text: &[u8], base: ExtendedDateTime) -> Result<ExtendedDateTime, PlacedRefusal>
     ensures { placed_of result ≡ build_text (lowered text.now) base }
 {
-    let mut standing = heeding::start();
-    let mut relatives = ArrayVec::new();
+    let mut heeded = Heeded::new();
     let mut count = 0;
     let mut i = 0;
     // a step is as long as the item that was read, so there is no range
@@ -71,8 +69,7 @@ fn build_text(text: &[u8], base: ExtendedDateTime) -> Result<ExtendedDateTime, P
                 if count == MOST_ITEMS {
                     return Err(Refusal::Oversize.at(0));
                 }
-                standing = heeding::heed(standing, &[], item, count);
-                heeding::keep_relative(&mut relatives, item);
+                heeded.heed(&[], item, count);
                 count += 1;
                 i = next;
             }
@@ -80,5 +77,5 @@ fn build_text(text: &[u8], base: ExtendedDateTime) -> Result<ExtendedDateTime, P
             Err(Miss::Stop) => return Err(Refusal::Stopped.at(i)),
         }
     }
-    builder::build(standing, relatives.as_slice(), base)
+    builder::build(heeded.standing, heeded.relatives.as_slice(), base)
 }

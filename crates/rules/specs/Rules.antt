@@ -3,7 +3,7 @@
 use Rattle.std.specs.Prelude.{Option, Some, None, is_some}
 use Rattle.rules.specs.declared.Zone.{Zone}
 use Rattle.relative.specs.declared.Relative.{Relative}
-use Rattle.std.specs.Prelude.{ℕ, suc, ◌+◌, ◌-◌, Bool, true, false, not, ◌&&◌, ◌||◌, List, [], ◌∷◌, ◌++◌, leb, eqb}
+use Rattle.std.specs.Prelude.{ℕ, suc, ◌+◌, ◌-◌, Bool, false, not, ◌&&◌, ◌||◌, List, [], ◌∷◌, ◌++◌, leb, eqb}
 use Rattle.std.proofs.Math.Seq.{slice}
 use Rattle.extended.specs.Outcome.{Outcome, accepted, refused, check, ◌>>=◌, ◌>>◌}
 use Rattle.primitive.specs.Answer.{Answer, matched, none, stop, if}

@@ -122,9 +122,6 @@ impl DateTimeBuilder {
     fn has_offset(self) -> bool
         ensures { result ≡ has_offset self.time }
     {
-        match self.time {
-            Some(time) => time.offset.is_some(),
-            None => false,
-        }
+        self.time.is_some_and(|time| time.offset.is_some())
     }
 }

@@ -10,5 +10,5 @@ use Rattle.packet.proofs.build_items.Given as goal
 
 abbrev pub invariant-loop-i : goal.invariant-loop-i
 invariant-loop-i l =
-    (length l.relatives.items ≤ l.i) × (l.used ≤ length l.digits)
-    × (left l.packet (lowered l.digits) l.base l.count l.i l.used (placed_of l.standing) l.relatives.items ≡ build_items l.packet (lowered l.digits) l.count l.base)
+    (length l.heeded.relatives.items ≤ l.i) × (l.used ≤ length l.digits)
+    × (left l.packet (lowered l.digits) l.base l.count l.i l.used (placed_of l.heeded.standing) l.heeded.relatives.items ≡ build_items l.packet (lowered l.digits) l.count l.base)

@@ -10,8 +10,8 @@ use Rattle.reading.proofs.build_text.Given as goal
 
 abbrev pub invariant-loop-item : goal.invariant-loop-item
 invariant-loop-item l =
-    (l.count ≤ 64) × (length l.relatives.items ≤ l.count)
-    × (left (lowered l.text) l.base l.count (placed_of l.standing) l.relatives.items l.i ≡ build_text (lowered l.text) l.base)
+    (l.count ≤ 64) × (length l.heeded.relatives.items ≤ l.count)
+    × (left (lowered l.text) l.base l.count (placed_of l.heeded.standing) l.heeded.relatives.items l.i ≡ build_text (lowered l.text) l.base)
 
 abbrev pub decreases-loop-item : goal.decreases-loop-item
 decreases-loop-item l = 65 - l.count

@@ -1,0 +1,2 @@
+-- The laws of the crate `items_of_fields`.
+pub mod Flags
