@@ -8,11 +8,10 @@ use mathlib.Core.Bool.{Bool, true, false}
 use mathlib.Core.List.{List}
 use lib.Dec.{leb}
 use lib.ListN.{length}
-use Rattle.extended.specs.Outcome.{Outcome, accepted, refused, number, check, ◌>>◌}
+use Rattle.extended.specs.Outcome.{Outcome, accepted, refused, number, value_or, check, ◌>>◌}
 use Rattle.extended.specs.Extended.{test}
 use Rattle.extended.specs.declared.ExtendedDateTime.{ExtendedDateTime}
-use Rattle.writer.specs.Writer.{text_of, whole_minutes, written, bytes_of, written_answer, over}
-use Rattle.writer.specs.declared.Written.{Written}
+use Rattle.writer.specs.Writer.{text_of, whole_minutes, written, bytes_of, written_length, over}
 use Rattle.answers.specs.Answers.{Put}
 use Rattle.answers.proofs.Putting.{part_put}
 
@@ -27,18 +26,24 @@ pub bytes_fit : (r : ExtendedDateTime) (n : ℕ) → length (bytes_of (written r
 unfolding written
 bytes_fit r n = fit (test r) (whole_minutes r.offset_seconds) (text_of r) n (leb (length (text_of r)) n) refl
 
-module _ (r : ExtendedDateTime) (out ys : List ℕ) (w : Written) (h : 43 ≤ length out) where
+-- how many bytes are written, and under which number
+counted : (o : Outcome (List ℕ)) → (number (written_length o) ≡ number o) × (value_or 0 (written_length o) ≡ length (bytes_of o))
+counted (accepted text) = (refl, refl)
+counted (refused n) = (refl, refl)
+
+module _ (r : ExtendedDateTime) (out ys : List ℕ) (w : Outcome ℕ) (h : 43 ≤ length out) where
   room : length (mid_of 2 41 out) ≡ 41
   room = mid_len 2 43 out h
 
-  pub text_number : w ≡ written_answer (written r (length (mid_of 2 41 out))) → (w.number ≡ number (written r 41)) × (w.length ≤ 41)
+  pub text_number : w ≡ written_length (written r (length (mid_of 2 41 out))) → (number w ≡ number (written r 41)) × (value_or 0 w ≤ 41)
   text_number e =
-      let f : w ≡ written_answer (written r 41) = rw room at e in
-      (ap (λ (v : Written). v.number) f, rw f (bytes_fit r 41))
+      let f : w ≡ written_length (written r 41) = rw room at e in
+      let k = counted (written r 41) in
+      (rw f k.0, rw (f, k.1) (bytes_fit r 41))
 
-  pub text_put : w ≡ written_answer (written r (length (mid_of 2 41 out))) → ys ≡ over (bytes_of (written r (length (mid_of 2 41 out)))) (mid_of 2 41 out) → Put (bytes_of (written r 41)) 2 out (2 + w.length) (put_mid 2 41 out ys)
+  pub text_put : w ≡ written_length (written r (length (mid_of 2 41 out))) → ys ≡ over (bytes_of (written r (length (mid_of 2 41 out)))) (mid_of 2 41 out) → Put (bytes_of (written r 41)) 2 out (2 + value_or 0 w) (put_mid 2 41 out ys)
   text_put e f =
-      let g : w ≡ written_answer (written r 41) = rw room at e in
+      let g : w ≡ written_length (written r 41) = rw room at e in
       let k : ys ≡ over (bytes_of (written r 41)) (mid_of 2 41 out) = f ∙ ap (λ (n : ℕ). over (bytes_of (written r n)) (mid_of 2 41 out)) room in
       let l : length (bytes_of (written r 41)) ≤ length (mid_of 2 41 out) = rw room (bytes_fit r 41) in
-      record { place = ap (λ (v : Written). 2 + v.length) g; bytes = rw k (part_put (bytes_of (written r 41)) out 2 41 l) }
+      record { place = rw (g, (counted (written r 41)).1); bytes = rw k (part_put (bytes_of (written r 41)) out 2 41 l) }

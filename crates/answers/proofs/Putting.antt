@@ -9,6 +9,8 @@ use mathlib.Core.List.{List, [], ◌∷◌, ◌++◌, append_assoc}
 use lib.ListN.{length, take, drop, set, length-append, take-append-drop}
 use lib.Seq.{length-take-le, set_split, take_at, drop-append-add, drop-append-le, drop-drop}
 use Rattle.extended.specs.Outcome.{Outcome, accepted, refused, number}
+use Rattle.extended.specs.Refusals.{code}
+use Rattle.extended.specs.declared.refusals.Refusal.{Refusal}
 use Rattle.writer.specs.Writer.{fixed, width, digits, bytes_of}
 use Rattle.writer.proofs.Digits.{fixed_length, width_some}
 use Rattle.answers.specs.Answers.{refusal_line, written_line, put_at, Put}
@@ -71,7 +73,19 @@ pub part_put : (t out : List ℕ) (at k : ℕ) → length t ≤ length (take k (
 unfolding put_at
 part_put t out at k h = rw (append_assoc t (drop (length t) (take k (drop at out))) (drop k (drop at out)), ← drop-append-le (length t) (take k (drop at out)) (drop k (drop at out)) h, take-append-drop k (drop at out), drop-drop (length t) at out)
 
+-- what is put into the first k bytes is put into the whole
+pub front_put : {t out front result : List ℕ} {n : ℕ} (k : ℕ) → k ≤ length out → n ≤ k → front ≡ take k out → Put t 0 front n result → Put t 0 out n (result ++ drop k out)
+unfolding put_at
+front_put {t} {out} k h l e p =
+    let z : 0 + length t ≡ length t = omega arith in
+    let m : length t ≤ length (take k out) = rw (length-take-le k out h) (omega (arith, p.place)) in
+    record { place = p.place; bytes = rw (p.bytes, e, z) (rw z at (part_put t out 0 k m)) }
+
 -- ---- the answer to a record
+-- no refusal has number 0
+pub code_some : (e : Refusal) → 0 < code e
+code_some e = grind arith
+
 no_text : (o : Outcome (List ℕ)) → 0 < number o → bytes_of o ≡ []
 no_text (accepted t) h = absurd (omega arith)
 no_text (refused n) h = refl

@@ -1,118 +1,79 @@
-// A line of the list, as far as it is read.
+// A line of the list, with what its braces stand for.
+ghost use Rattle.std.specs.Prelude.{◌<◌, ◌≤◌, IfSome, length};
+
 use arrayvec::ArrayVec;
 
-#[derive(Clone, Copy, Debug, PartialEq, Eq)]
-enum Mode {
-    Text,
-    // Behind `{`, in a number.
-    Number,
-    // Behind the tab.
-    Reason,
-}
-
+// A line by its text, with no more bytes than a text may have.
 #[derive(Drop)]
-pub struct Line {
-    mode: Mode,
-    // The bytes of the text so far.
-    text: ArrayVec<u8, 4096>,
-    // A byte had no room.
-    too_long: bool,
-    // How many copies there will be of the part that begins at `start`; in a number, the number so far.
-    number: usize,
-    start: usize,
+pub enum Line {
+    // No tab ends the text.
+    Heading(ArrayVec<u8, 4096>),
+    Text(ArrayVec<u8, 4096>),
 }
 
-impl Line {
-    pub fn new() -> Line {
-        Line {
-            mode: Mode::Text,
-            text: ArrayVec::new(),
-            too_long: false,
-            number: 0,
-            start: 0,
-        }
-    }
-
-    // The text, unless it is too long.
-    pub fn text(&self) -> Option<&[u8]> {
-        if self.too_long {
-            return None;
-        }
-        Some(self.text.as_slice())
-    }
-
-    // Whether the line has no tab.
-    pub fn is_heading(&self) -> bool {
-        self.mode != Mode::Reason
-    }
-
-    // One byte more of the line.
-    pub fn take(&mut self, byte: u8) {
-        match (self.mode, byte) {
-            (Mode::Text, b'\t') => self.mode = Mode::Reason,
-            (Mode::Text, b'{') => {
-                self.mode = Mode::Number;
-                self.number = 0;
+// The line that bytes are, unless its text is too long. Braces that the list has no use for mean something too: `}` that ends no part takes away
+// what stands behind the last one, and a number that nothing ends is the end of the line.
+pub fn expanded(bytes: &[u8]) -> Option<Line> {
+    let mut text = ArrayVec::new();
+    // Where the part began that the next `}` ends, and how many copies there will be of it.
+    let mut start = 0;
+    let mut copies = 0;
+    let mut rest = bytes;
+    while let Some(at) = find(rest, b"\t{}") {
+        let part = &rest[..at];
+        text.try_extend_from_slice(part).ok()?;
+        let mark = rest[at];
+        rest = &rest[at + 1..];
+        match mark {
+            b'\t' => return Some(Line::Text(text)),
+            b'{' => {
+                let (number, next) = number_at(rest);
+                start = text.len();
+                copies = 0;
+                rest = match next.split_first() {
+                    Some((b':', behind)) => {
+                        copies = number;
+                        behind
+                    }
+                    Some((_, behind)) => {
+                        text.try_push(u8::try_from(number).ok()?).ok()?;
+                        behind
+                    }
+                    None => next,
+                };
             }
-            (Mode::Text, b'}') => self.copy_part(),
-            (Mode::Text, _) => self.put(byte),
-            // The part to copy begins.
-            (Mode::Number, b':') => {
-                self.mode = Mode::Text;
-                self.start = self.text.len();
-            }
-            (Mode::Number, b'}') => {
-                let number = self.number;
-                self.mode = Mode::Text;
-                self.end_part();
-                match u8::try_from(number) {
-                    Ok(byte) => self.put(byte),
-                    Err(_) => self.too_long = true,
+            // An empty part does not end yet.
+            _ if start < text.len() => {
+                text.truncate(start);
+                for _ in 0..copies {
+                    text.try_extend_from_slice(part).ok()?;
                 }
+                start = text.len();
+                copies = 0;
             }
-            (Mode::Number, _) => self.number = with_digit(self.number, byte),
-            (Mode::Reason, _) => {}
+            _ => {}
         }
     }
-
-    // One byte more of the text.
-    fn put(&mut self, byte: u8) {
-        if self.text.try_push(byte).is_err() {
-            self.too_long = true;
-        }
-    }
-
-    // The copies of the part that has ended.
-    fn copy_part(&mut self) {
-        let end = self.text.len();
-        if end <= self.start {
-            return;
-        }
-        if self.number == 0 {
-            self.text.truncate(self.start);
-        }
-        for _ in 1..self.number {
-            // the bytes to copy stand in the text that grows, so no slice of it can be lent meanwhile
-            for i in self.start..end {
-                if let Some(byte) = self.text.as_slice().get(i).copied() {
-                    self.put(byte);
-                }
-            }
-            if self.too_long {
-                break;
-            }
-        }
-        self.end_part();
-    }
-
-    // No part is begun.
-    fn end_part(&mut self) {
-        self.number = 0;
-        self.start = self.text.len();
-    }
+    text.try_extend_from_slice(rest).ok()?;
+    Some(Line::Heading(text))
 }
 
-// A decimal number with one digit more; one that can't be read is as large as can be, and stays so.
+// The place of the first of these marks.
+fn find(bytes: &[u8], marks: &[u8]) -> Option<usize>
+    ensures { IfSome result (λ at. at < length bytes.now) }
+{
+    bytes.iter().position(|byte| marks.contains(byte))
+}
+
+// The number in front of `:` or `}`, and what follows it. A number that can't be read is as large as can be.
+fn number_at(bytes: &[u8]) -> (usize, &[u8])
+    ensures { length result.1.now ≤ length bytes.now }
+{
+    let end = find(bytes, b":}").unwrap_or(bytes.len());
+    let number = bytes[..end].iter().fold(0, |n, byte| with_digit(n, *byte));
+    (number, &bytes[end..])
+}
+
 fn with_digit(number: usize, byte: u8) -> usize {
     if !byte.is_ascii_digit() {
         return usize::MAX;

@@ -14,16 +14,11 @@ use line::Line;
 use std::io::{Stdout, Write};
 
 // What is written for a line: a heading, or the items of a text.
-fn reply(out: &mut Stdout, line: &Line) -> std::io::Result<()> {
-    match line.text() {
+fn reply(out: &mut Stdout, line: &[u8]) -> std::io::Result<()> {
+    match line::expanded(line) {
+        Some(Line::Heading(text)) => out.write_all(text.as_slice())?,
+        Some(Line::Text(text)) => answers::write_items(out, text.as_slice())?,
         None => write!(out, "99")?,
-        Some(text) => {
-            if line.is_heading() {
-                out.write_all(text)?;
-            } else {
-                answers::write_items(out, text)?;
-            }
-        }
     }
     writeln!(out)
 }
@@ -32,13 +27,10 @@ fn reply(out: &mut Stdout, line: &Line) -> std::io::Result<()> {
 fn replay(out: &mut Stdout) -> std::io::Result<()> {
     let mut list = io::large_buffer();
     let n = io::read_full(0, &mut list);
-    let mut line = Line::new();
-    for byte in &list[..n] {
-        if *byte == b'\n' {
-            reply(out, &line)?;
-            line = Line::new();
-        } else {
-            line.take(*byte);
+    for line in list[..n].split_inclusive(|byte| *byte == b'\n') {
+        // What stands behind the last byte 10 is no line.
+        if let Some(line) = line.strip_suffix(b"\n") {
+            reply(out, line)?;
         }
     }
     Ok(())

@@ -5,7 +5,7 @@ use Prim.Native.Nat.{ℕ, ◌+◌, ◌-◌, ◌<◌, ◌≤◌, min}
 use native.Mathlib.Nat.{zero-add}
 use mathlib.Core.Path.{◌≡◌, refl, ◌∙◌}
 use mathlib.Core.Bool.{Bool, true, false}
-use mathlib.Core.List.{List, []}
+use mathlib.Core.List.{List, [], ◌++◌}
 use Rattle.std.specs.Prelude.{◌⊎◌}
 use lib.Dec.{ltb}
 use lib.ListN.{length, take, drop, length-drop}
@@ -46,3 +46,12 @@ kept_some b from end n p q e =
     let t : take 4097 (take (end - from) (drop from b)) ≡ take n (drop from b) = take_least (drop from b) 4097 (end - from) l ∙ rw e in
     let s : length (take n (drop from b)) ≡ n = length-take-le n (drop from b) (omega (arith, l)) in
     rw (m, le-ltb (length b) end q, t) (record { place = omega (arith, s); bytes = rw (zero-add (length (take n (drop from b))), s, zero-add n) })
+
+-- ---- i bytes of n are moved, one at a time
+pub record Moving (b₀ : List ℕ) (from n i : ℕ) (b : List ℕ) : Type 0 where
+  pub few : i ≤ n
+  pub same : length b ≡ length b₀
+  pub bytes : b ≡ take i (drop from b₀) ++ drop i b₀
+
+pub moving_start : (b : List ℕ) (from n : ℕ) → Moving b from n 0 b
+moving_start b from n = record { few = omega arith; same = refl; bytes = refl }

@@ -55,3 +55,22 @@ whole_more (b ∷ s) h = by (eqb b 10) h (whole_more s) where
   by : (t : Bool) → if t 0 (suc (line_length s)) < suc (length s) → (line_length s < length s → whole_lines s ≡ take (line_length s) s ∷ whole_lines (drop (suc (line_length s)) s)) → if t ([] ∷ whole_lines s) (in_front_of_ended b (whole_lines s)) ≡ take (if t 0 (suc (line_length s))) (b ∷ s) ∷ whole_lines (drop (if t 0 (suc (line_length s))) s)
   by true h e = refl
   by false h e = rw (e (omega arith))
+
+-- ---- a line's end that is sought in a block of 16 bytes
+
+-- the place where the line that begins at `from` ends, sought from i on
+pub record Sought (s : List ℕ) (from i : ℕ) : Type 0 where
+  pub behind : from ≤ i
+  pub inside : i ≤ length s
+  pub same : i + line_length (drop i s) ≡ from + line_length (drop from s)
+
+pub sought_start : (s : List ℕ) (from : ℕ) → from ≤ length s → Sought s from from
+sought_start s from h = record { behind = omega arith; inside = h; same = refl }
+
+-- j bytes of the block are looked at: where none is found, the end is sought from behind them
+pub record Looked (s : List ℕ) (at j : ℕ) (found : Bool) : Type 0 where
+  pub most : j ≤ 16
+  pub unfound : found ≡ false → Sought s at (at + j)
+
+pub looked_start : (s : List ℕ) (at : ℕ) → at + 16 ≤ length s → Looked s at 0 false
+looked_start s at h = record { most = omega arith; unfound = λ e. rw (add-zero at) (sought_start s at (omega arith)) }

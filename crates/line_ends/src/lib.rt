@@ -9,14 +9,12 @@ ghost use Rattle.line_ends.specs.Lines.{line_length, kept};
 // What is kept of a line: one byte more than the longest text that is read.
 const LONGEST_LINE: usize = 4097;
 
-const NEWLINE: u8 = 10;
-
 // Where the first line ends: at a byte 10, or with the bytes.
 #[tactic(auto, using(crate::proofs::Splitting::line_found))]
 pub fn first_line_end(bytes: &[u8]) -> usize
     ensures { (result ≡ line_length bytes.now) × (result ≤ length bytes.now) }
 {
-    memchr::memchr(NEWLINE, bytes).unwrap_or(bytes.len())
+    memchr::memchr(b'\n', bytes).unwrap_or(bytes.len())
 }
 
 // Where the line that begins at `from` ends: at a byte 10, or with the bytes.

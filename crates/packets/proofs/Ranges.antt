@@ -31,7 +31,6 @@ use Rattle.times.specs.Offset as offset-range
 use Rattle.times.specs.Offset.{offset_of, timezone_offset_colon, digits_offset, timezone_offset_colonless, any_offset, signed_fraction, time_zone_correction, timezone_offset}
 use Rattle.times.specs.Time.{below, hour24, hour12, minute, second, optional_second, optional_minute, optional_correction, hour_offset, clock, iso, meridiem, am_pm_time, parse}
 use Rattle.times.specs.declared.offset.Offset.{Offset}
-use Rattle.times.specs.declared.time.SecNsec.{SecNsec}
 use Rattle.times.specs.declared.time.Time.{Time}
 use Rattle.packets.proofs.Gives.{Gives, then_gives, after, next, unless_gives, or_gives, pure_gives, optional_gives, verify_gives, certain_gives, if_gives, spaced_gives, attempt_gives, by_match, of_match, no_more, one_more, named_gives}
 use Rattle.items.specs.Combined.{separator, starts_with_meridiem, unless_meridiem, iso_alone, combined_time, parse_time_after_date}
@@ -133,14 +132,14 @@ GoodTime t = time_in_range t ≡ true
 abbrev Below : ℕ → ℕ → Type 0
 Below k v = ltb v k ≡ true
 
-abbrev GoodSecond : SecNsec → Type 0
+abbrev GoodSecond : SecAndNsec ℕ → Type 0
 GoodSecond v = (ltb v.sec 60 ≡ true) × (v.nsec < 1000000000)
 
 below_gives : (k : ℕ) → Gives (Below k) (below k)
 unfolding below small
 below_gives k = after (Below k) small _ (λ v. verify_gives (Below k) (ltb v k) v (λ e. e))
 
-abbrev Nanos : SecAndNsec → Type 0
+abbrev Nanos : SecAndNsec ℕ → Type 0
 Nanos v = v.nsec < 1000000000
 
 nsec_gives : Gives Nanos sec_and_nsec
@@ -166,7 +165,7 @@ optional_correction_gives =
     optional_gives (λ o. offset_in_range o ≡ true) _ _ refl
     (then_gives (λ o. offset_in_range o ≡ true) GoodOffset time_zone_correction _ (unless_gives GoodOffset signed_fraction any_offset any_offset_gives) (λ o h. pure_gives (λ o. offset_in_range o ≡ true) (Some o) h))
 
-good_time : (h m : ℕ) (v : SecNsec) (o : Option Offset) → Below 24 h → Below 60 m → GoodSecond v → offset_in_range o ≡ true → GoodTime (record { hour = h; minute = m; second = v.sec; nanosecond = v.nsec; offset = o })
+good_time : (h m : ℕ) (v : SecAndNsec ℕ) (o : Option Offset) → Below 24 h → Below 60 m → GoodSecond v → offset_in_range o ≡ true → GoodTime (record { hour = h; minute = m; second = v.sec; nanosecond = v.nsec; offset = o })
 unfolding time_in_range
 good_time h m v o a b c d =
     both (le-leb h 23 (omega (arith, ltb-true h 24 a))) (both (le-leb m 59 (omega (arith, ltb-true m 60 b))) (both (le-leb v.sec 59 (omega (arith, ltb-true v.sec 60 c.0))) (both (le-leb v.nsec 999999999 (omega (arith, c.1))) d)))
@@ -305,7 +304,7 @@ unfolding signed
 below_zero_in zero h = refl
 below_zero_in (suc n) h = lt-ltb n 9223372036854775808 (omega arith)
 
-rounded_good : (t : Bool) (v : SecAndNsec) → ltb v.sec (2 ^ 63) ≡ true → Nanos v → GoodRelative (rounded t v)
+rounded_good : (t : Bool) (v : SecAndNsec ℕ) → ltb v.sec (2 ^ 63) ≡ true → Nanos v → GoodRelative (rounded t v)
 unfolding rounded
 rounded_good false v e h = some_seconds (pos v.sec) v.nsec e (omega arith)
 rounded_good true v e h = go (eqb v.nsec 0)

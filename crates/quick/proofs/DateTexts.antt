@@ -23,7 +23,7 @@ use Rattle.forms.proofs.LiteralDates.{Month, month_still, no_hyphen_read, comma_
 use Rattle.forms.proofs.DateItems.{month_day_year, day_month, name_day}
 use Rattle.forms.proofs.TwoItems.{long_year}
 use Rattle.quick.specs.Rows.{Digits, Short}
-use Rattle.extended.specs.declared.DateParts.{DateParts}
+use Rattle.calendar.specs.declared.Civil.{Civil}
 use Rattle.std.specs.Prelude.{Option, Some, None}
 use Rattle.quick.specs.Days.{day_of, Iso, EndedYear, YearAt, UsDate, Named, DayMonthDate, OtherDate}
 use Rattle.quick.proofs.Places.{part, mark, head_drop}
@@ -93,12 +93,12 @@ short_within s h = rw length_lowered at h.more
 pub name_within : (s : List ℕ) {at k n : ℕ} → Named (lowered s) at k n → n < length s
 name_within s h = rw length_lowered at h.more
 
-pub day_year_found : (s : List ℕ) (m : ℕ) {at d n : ℕ} → Short (lowered s) at d n → get_or s n 0 ≡ 47 → (r : Option (DateParts × ℕ)) → YearAt (lowered s) (n + 1) m d r → UsDate (lowered s) at m r
+pub day_year_found : (s : List ℕ) (m : ℕ) {at d n : ℕ} → Short (lowered s) at d n → get_or s n 0 ≡ 47 → (r : Option (Civil ℕ × ℕ)) → YearAt (lowered s) (n + 1) m d r → UsDate (lowered s) at m r
 unfolding lower
 day_year_found s m {n = n} h b (Some got) (f, g, z) = (f, record { to = n; row = rw g h.row; small = rw g h.small; slash = mark s n 47 (short_within s h) b refl; year = z })
 day_year_found s m h b None z = tt
 
-pub month_year_found : (text : List ℕ) (d : ℕ) {at k n : ℕ} → Named text at k n → (r : Option (DateParts × ℕ)) → YearAt text (n + 1) k d r → DayMonthDate text at d r
+pub month_year_found : (text : List ℕ) (d : ℕ) {at k n : ℕ} → Named text at k n → (r : Option (Civil ℕ × ℕ)) → YearAt text (n + 1) k d r → DayMonthDate text at d r
 month_year_found text d {n = n} h (Some got) (f, g, z) = (g, record { to = n; name = rw f h; year = z })
 month_year_found text d h None z = tt
 
@@ -110,7 +110,7 @@ unfolding digit
 ending_gap text_ends = ([], refl, refl, refl)
 ending_gap (blanks_end b bs g h) = (b ∷ bs, g, refl, blank_no_digit b (halves (blank b) (all blank bs) g).0)
 
-pub us_found : (s : List ℕ) {m p : ℕ} → Short (lowered s) 0 m p → get_or s p 0 ≡ 47 → (r : Option (DateParts × ℕ)) → UsDate (lowered s) (p + 1) m r → OtherDate (lowered s) r
+pub us_found : (s : List ℕ) {m p : ℕ} → Short (lowered s) 0 m p → get_or s p 0 ≡ 47 → (r : Option (Civil ℕ × ℕ)) → UsDate (lowered s) (p + 1) m r → OtherDate (lowered s) r
 unfolding lower
 us_found s {p = p} h b (Some got) (f, z) =
     let year = z.year in
@@ -140,7 +140,7 @@ day_month_read {ys = ys} {l} d m y h =
     let g = blanks (32 ∷ []) refl (number_still l y.number) in
     day_month [] refl d refl (blanks (32 ∷ []) refl (month_still m _)) m (λ z. (refl, refl)) (with_it (no_hyphen_read g (other digit (head (ys ++ l)) 45 (number_head l y.number) refl)) g h y)
 
-pub day_month_found : (s : List ℕ) {d p : ℕ} → Short (lowered s) 0 d p → get_or s p 0 ≡ 32 → (r : Option (DateParts × ℕ)) → DayMonthDate (lowered s) (p + 1) d r → OtherDate (lowered s) r
+pub day_month_found : (s : List ℕ) {d p : ℕ} → Short (lowered s) 0 d p → get_or s p 0 ≡ 32 → (r : Option (Civil ℕ × ℕ)) → DayMonthDate (lowered s) (p + 1) d r → OtherDate (lowered s) r
 unfolding lower
 day_month_found s {p = p} h b (Some got) (f, z) =
     let year = z.year in
@@ -168,7 +168,7 @@ name_day_read {ys = ys} {l} m d y h =
     let g = digit_no_blank (head (ys ++ l)) (number_head l y.number) in
     name_day [] refl m (λ z. (refl, refl)) (blanks (32 ∷ []) refl (number_still _ d)) d refl (with_it (comma_read 32 [] (still (plain refl)) refl g) (here l y.number) h y)
 
-pub name_day_found : (s : List ℕ) {k e d p : ℕ} → Named (lowered s) 0 k e → Short (lowered s) (e + 1) d p → get_or s p 0 ≡ 44 → p + 1 < length s → get_or s (p + 1) 0 ≡ 32 → (r : Option (DateParts × ℕ)) → YearAt (lowered s) (p + 1 + 1) k d r → OtherDate (lowered s) r
+pub name_day_found : (s : List ℕ) {k e d p : ℕ} → Named (lowered s) 0 k e → Short (lowered s) (e + 1) d p → get_or s p 0 ≡ 44 → p + 1 < length s → get_or s (p + 1) 0 ≡ 32 → (r : Option (Civil ℕ × ℕ)) → YearAt (lowered s) (p + 1 + 1) k d r → OtherDate (lowered s) r
 unfolding lower
 name_day_found s {e = e} {p = p} name h b l c (Some got) (f, g, year) =
     let month = name.small in

@@ -3,10 +3,11 @@
 use native.Mathlib.Omega.{arith}
 use Prim.Native.Nat.{ℕ, ◌+◌, ◌<◌, ◌≤◌}
 use mathlib.Core.Path.{◌≡◌, refl, ◌∙◌}
+use mathlib.Core.Logic.{◌⊎◌, inl, inr}
 use mathlib.Core.Bool.{Bool, true, false}
 use mathlib.Core.List.{List, [], ◌∷◌, ◌++◌}
 use lib.ListN.{length, get_or, drop, length-drop, drop_of_length-le}
-use Rattle.std.specs.Prelude.{Option}
+use Rattle.std.specs.Prelude.{Option, Some}
 use Rattle.times.specs.declared.offset.Offset.{Offset}
 use Rattle.primitive.specs.Text.{lower, lowered, blank, digit}
 use Rattle.primitive.proofs.Lowered.{length_lowered, get_or_lowered}
@@ -23,7 +24,7 @@ use Rattle.forms.proofs.Combined.{separator_of, separator_no_digit, combined_ite
 use Rattle.forms.proofs.Lists.{no_more_items, one_item}
 use Rattle.quick.proofs.Places.{byte_there}
 use Rattle.quick.specs.Days.{day_of, Iso, Other}
-use Rattle.quick.specs.Clocks.{time_of, Clock, HalfDay}
+use Rattle.quick.specs.Clocks.{time_of, zone_small, Clock, HalfDay}
 use Rattle.quick.specs.Shapes.{day_alone, combined, apart, Shaped, at_midnight, SeparatorAt}
 use Rattle.quick.specs.declared.Shape.{Shape}
 
@@ -45,9 +46,20 @@ past_end text n h = drop_of_length-le text h
 left : (text : List ℕ) (n : ℕ) → n < length text → 0 < length (drop n text)
 left text n h = rw (length-drop n text) (omega arith)
 
+-- the hours and minutes of a small offset
+pub small_zone : (z : Option Offset) {o : Offset} → z ≡ Some o → zone_small z → (o.hours < 24) × (o.minutes < 60)
+small_zone z e a = rw e at a
+
 -- a blank or a `t` that the code saw
-pub separator_at : (s : List ℕ) (at b : ℕ) (with_t : Bool) → at < length s → b ≡ lower (get_or s at 0) → b ≡ separator_of with_t → SeparatorAt (lowered s) at
-separator_at s at b w h e k = record { with_t = w; there = let g : at < length (lowered s) = rw (length_lowered s) h in byte_there (lowered s) at g ∙ rw (get_or_lowered s at, ← e, k) }
+pub separator_at : (s : List ℕ) (at b : ℕ) → at < length s → b ≡ lower (get_or s at 0) → (b ≡ 32) ⊎ (b ≡ 116) → SeparatorAt (lowered s) at
+separator_at s at b h e k = by k
+  where
+    seen : (with_t : Bool) → b ≡ separator_of with_t → SeparatorAt (lowered s) at
+    seen w f = record { with_t = w; there = let g : at < length (lowered s) = rw (length_lowered s) h in byte_there (lowered s) at g ∙ rw (get_or_lowered s at, ← e, f) }
+
+    by : (b ≡ 32) ⊎ (b ≡ 116) → SeparatorAt (lowered s) at
+    by (inl f) = seen false f
+    by (inr f) = seen true f
 
 -- ---- an ISO date
 
@@ -71,7 +83,7 @@ module _ {text : List ℕ} {y m d n : ℕ} (a : Iso text y m d n) where
       items = (item.Date (day_of y m d)) ∷ [];
       fronts = day_alone refl;
       whole = λ h. listed_one [] [] quiet_front long (alone t (past_end text n h) refl (no_time_behind _ [] [] refl (plain refl) refl refl)) refl refl;
-      moved = λ u k s. let z = s.there in absurd (omega arith);
+      moved = λ v s. let z = s.there in absurd (omega arith);
     };
   }
 
@@ -85,7 +97,7 @@ module _ {text : List ℕ} {y m d n : ℕ} (a : Iso text y m d n) where
       whole = λ h.
           let z = past_end text (n + 1) h in
           listed_one (32 ∷ []) (drop (n + 1) text) quiet_front long (alone t e refl (rw z (no_time_behind _ (32 ∷ []) [] refl (plain refl) refl refl))) refl z;
-      moved = λ u k s. listed_two (32 ∷ []) (drop (n + 1) text) quiet_front long (alone t e refl (s.no_time (day_of y m d))) refl s.still (left text (n + 1) s.there) (s.reads (32 ∷ []) refl);
+      moved = λ v s. listed_two (32 ∷ []) (drop (n + 1) text) quiet_front long (alone t e refl (s.no_time (day_of y m d))) refl s.still (left text (n + 1) s.there) (s.reads (32 ∷ []) refl);
     };
   }
 
@@ -106,7 +118,7 @@ module _ {text : List ℕ} {y m d n : ℕ} (a : Iso text y m d n) where
         items = (item.DateTime (record { date = day_of y m d; time = time_of h i s j z })) ∷ [];
         fronts = combined;
         whole = λ g. listed_one c.gap (drop k text) quiet_front long (both t) c.blanks (past_end text k g);
-        moved = λ u q f. listed_two c.gap (drop k text) quiet_front long (both t) c.blanks f.still (left text k f.there) (f.reads c.gap c.blanks);
+        moved = λ v f. listed_two c.gap (drop k text) quiet_front long (both t) c.blanks f.still (left text k f.there) (f.reads c.gap c.blanks);
       };
     }
 
@@ -123,7 +135,7 @@ module _ {text : List ℕ} {y m d n : ℕ} (a : Other text y m d n) (long : 0 < 
       items = (item.Date (day_of y m d)) ∷ [];
       fronts = day_alone refl;
       whole = λ h. listed_one a.gap (drop n text) a.still long (a.reads t) a.blanks (past_end text n h);
-      moved = λ u k s. listed_two a.gap (drop n text) a.still long (a.reads t) a.blanks s.still (left text n s.there) (s.reads a.gap a.blanks);
+      moved = λ v s. listed_two a.gap (drop n text) a.still long (a.reads t) a.blanks s.still (left text n s.there) (s.reads a.gap a.blanks);
     };
   }
 
@@ -134,6 +146,6 @@ module _ {text : List ℕ} {y m d n : ℕ} (a : Other text y m d n) (long : 0 < 
       items = (item.Date (day_of y m d)) ∷ (item.Time (time_of h i s j z)) ∷ [];
       fronts = apart;
       whole = λ g. listed_two a.gap (drop n text) a.still long (a.reads t) a.blanks (digit_still c.begins) (left text n c.there) (c.reads a.gap a.blanks);
-      moved = λ u q f. let e = c.ends in let w = f.there in absurd (omega arith);
+      moved = λ v f. let e = c.ends in let w = f.there in absurd (omega arith);
     };
   }

@@ -9,23 +9,16 @@ use mathlib.Core.Bool.{Bool, true, false}
 use lib.ListN.{length, get_or}
 use lib.Seq.{slice, length-slice}
 use lib.Dec.{leb}
-use Rattle.primitive.specs.Answer.{matched, if, answer_of}
-use Rattle.std.specs.Prelude.{Option, Some, None}
+use Rattle.primitive.specs.Answer.{matched, if}
 use Rattle.primitive.specs.Text.{lower, lowered, bytes, letter}
 use Rattle.primitive.specs.Primitive.{alpha1, same, named}
 use Rattle.primitive.proofs.Lowered.{length_lowered}
-use Rattle.primitive.proofs.Rows.{all, halves}
+use Rattle.primitive.proofs.Rows.{halves}
 use Rattle.dates.specs.Date.{months}
 use Rattle.forms.proofs.Tables.{every}
-use Rattle.quick.specs.Days.{NamedAt}
+use Rattle.quick.specs.Days.{Named}
 use Rattle.quick.proofs.Places.{mark}
 use Rattle.quick.proofs.Found.{some_row}
-
--- ---- letters
-
-word_letters : (text : List ℕ) (at e : ℕ) → matched (slice at e text) e ≡ alpha1 text at → (at < e) × (all letter (slice at e text) ≡ true)
-unfolding alpha1
-word_letters text at e h = let (long, (row, letters)) = some_row letter text (slice at e text) at e (sym h) in (long, letters)
 
 -- ---- the table
 
@@ -51,20 +44,18 @@ months_small : every (λ e. leb e.1 12) months ≡ true
 unfolding months
 months_small = refl
 
-pub name_found : (s : List ℕ) (at e : ℕ) → matched (slice at e (lowered s)) e ≡ alpha1 (lowered s) at → e < length s → get_or s e 0 ≡ 32
-    → (r : Option (ℕ × ℕ)) → answer_of r ≡ named months (slice at e (lowered s)) (lowered s) e → NamedAt (lowered s) at r
-unfolding lower
-name_found s at e h l b (Some p) f =
-    let t = word_letters (lowered s) at e h in
-    let m = entry_of months (slice at e (lowered s)) (lowered s) p.0 e p.1 months_small f in
+pub name_found : (s : List ℕ) (at e : ℕ) (w : List ℕ) → matched w e ≡ alpha1 (lowered s) at → e < length s → get_or s e 0 ≡ 32
+    → (k : ℕ) → ((text : List ℕ) (i : ℕ) → matched k i ≡ named months w text i) → Named (lowered s) at k e
+unfolding lower alpha1
+name_found s at e w h l b k f =
+    let (far, (row, letters)) = some_row letter (lowered s) w at e (sym h) in
+    let m = entry_of months w (lowered s) k e e months_small (f (lowered s) e) in
     let long : e < length (lowered s) = rw (length_lowered s) l in
     let size = length-slice at e (lowered s) (omega arith) in
-    rw m.place
-    (record {
-      month = record { word = slice at e (lowered s); dot = false; spelling = refl; long = omega arith; letters = t.1; found = λ l. record { reads = λ text i z. (i, m.anywhere text i, z) } };
+    record {
+      month = record { word = slice at e (lowered s); dot = false; spelling = refl; long = omega arith; letters = rw (← row) letters; found = λ l. record { reads = λ text i z. (i, rw (← row) (m.anywhere text i), z) } };
       small = m.small;
       forward = omega arith;
       more = long;
       space = mark s e 32 l b refl;
-    })
-name_found s at e h l b None f = tt
+    }

@@ -4,7 +4,7 @@ use Prim.Native.Nat.{ℕ, zero, suc, ◌+◌, ◌-◌, ◌^◌, ◌*◌, ◌<◌
 use native.Mathlib.Omega.{arith}
 use mathlib.Core.Path.{◌≡◌, refl, sym, ap, ◌∙◌}
 use mathlib.Core.Logic.{inl, inr}
-use mathlib.Core.Bool.{Bool, true, false, ◌&&◌, not}
+use mathlib.Core.Bool.{Bool, true, false, ◌&&◌, not, beq}
 use mathlib.Core.List.{List, [], ◌∷◌, ◌++◌, append_assoc}
 use lib.Dec.{eqb}
 use lib.IntN.{ℤ, pos, neg_ℤ, ◌*ℤ◌}
@@ -12,18 +12,26 @@ use lib.Signed.{mag}
 use lib.ListN.{length, get_or, drop}
 use lib.Seq.{slice, length-slice}
 use borrow.Author.Tests.{eqb-true, not-true, ne_eqb}
-use Rattle.primitive.specs.Answer.{if, matched, place_answer}
+use mir.Syntax.{w32, w64}
+use mir.Val.{SFits, to_z, of_z}
+use mir.Facts.{to_z-of_z}
+use Rattle.std.specs.List.{AllByRecursion}
+use Rattle.std.proofs.Common.{Bor}
+use Rattle.std.proofs.lemmas.List.Elements.{All-from_recursion}
+use Rattle.primitive.specs.Answer.{if, matched, none, place_answer, found_at}
 use Rattle.std.specs.Prelude.{Option, Some, None}
 use Rattle.std.specs.Option.{option_eq}
 use Rattle.primitive.specs.Text.{lower, lowered, bytes, blank, digit, letter, tag}
 use Rattle.primitive.specs.Primitive.{decimal, dec_uint, same}
 use Rattle.primitive.specs.Ordinal.{signed}
+use Rattle.primitive.proofs.Numbers.{signed_fits}
 use Rattle.primitive.proofs.Rows.{all, halves, Number}
 use Rattle.primitive.proofs.Lowered.{length_lowered, rest_cons, rest_none, clash}
 use Rattle.dates.specs.declared.date.Date.{Date}
 use Rattle.dates.specs.Date.{months}
 use Rattle.times.specs.Time.{parse as parse-time}
-use Rattle.relative.specs.Relative.{direction}
+use Rattle.relative.specs.Relative.{direction, days}
+use Rattle.relative.specs.declared.Relative.{Relative}
 use Rattle.items.specs.Combined.{iso_alone, combined_time, parse_time_after_date}
 use Rattle.items.specs.Items.{parse_item}
 use Rattle.items.specs.declared.Item.TheVariants as item
@@ -35,13 +43,14 @@ use Rattle.forms.proofs.Times.{sign_no_digit, meridiem_else}
 use Rattle.forms.proofs.Dates.{short_no_date}
 use Rattle.forms.proofs.Items.{number_no_time}
 use Rattle.forms.proofs.Combined.{separator_read, hour_alone, no_time_behind}
-use Rattle.forms.proofs.Relative.{plural, turned, LongUnit, ago_read, no_direction, year_word, month_word, week_word, day_word, hour_word, second_unit}
+use Rattle.forms.proofs.Relative.{plural, turned, LongUnit, ago_read, no_direction, year_word, month_word, week_word, day_word, hour_word, minute_word, second_unit}
 use Rattle.forms.proofs.TwoItems.{rounded_signed, sign_lower}
 use Rattle.forms.proofs.RelativeItems.{OtherWord, tested, other_word, number_and_unit, signed_and_unit, seconds, signed_seconds}
 use Rattle.quick.specs.Rows.{Digits}
-use Rattle.quick.specs.Shifts.{relative_of, ShiftAt, BehindSign, UnitAt, word_of, way_of, Plural, Counted, CountAt}
-use Rattle.quick.specs.declared.shifts.TimeUnit.{TimeUnit}
-use Rattle.quick.specs.declared.shifts.TimeUnit.TheVariants as unit
+use Rattle.quick.specs.Shifts.{relative_of, Short, ShiftAt, BehindSign, UnitAt, word_of, way_of, Plural, CountAt}
+use Rattle.relative_forms.specs.Unit.{times}
+use Rattle.relative_forms.specs.declared.unit.Unit.{Unit as TimeUnit}
+use Rattle.relative_forms.specs.declared.unit.Unit.TheVariants as unit
 use Rattle.quick.proofs.Places.{part, mark}
 use Rattle.quick.proofs.Found.{read_row, read_word}
 
@@ -62,9 +71,11 @@ first_letter : (u : TimeUnit) (l : List ℕ) → letter (head (word_of u ++ l)) 
 unfolding bytes letter
 first_letter unit.Year l = refl
 first_letter unit.Month l = refl
+first_letter unit.Fortnight l = refl
 first_letter unit.Week l = refl
 first_letter unit.Day l = refl
 first_letter unit.Hour l = refl
+first_letter unit.Minute l = refl
 first_letter unit.Second l = refl
 
 -- each word, with and without `s`, begins no date and no time
@@ -74,12 +85,16 @@ no_date_word unit.Year true = other_word _ refl
 no_date_word unit.Year false = other_word _ refl
 no_date_word unit.Month true = other_word _ refl
 no_date_word unit.Month false = other_word _ refl
+no_date_word unit.Fortnight true = other_word _ refl
+no_date_word unit.Fortnight false = other_word _ refl
 no_date_word unit.Week true = other_word _ refl
 no_date_word unit.Week false = other_word _ refl
 no_date_word unit.Day true = other_word _ refl
 no_date_word unit.Day false = other_word _ refl
 no_date_word unit.Hour true = other_word _ refl
 no_date_word unit.Hour false = other_word _ refl
+no_date_word unit.Minute true = other_word _ refl
+no_date_word unit.Minute false = other_word _ refl
 no_date_word unit.Second true = other_word _ refl
 no_date_word unit.Second false = other_word _ refl
 
@@ -102,6 +117,46 @@ weeks_fit false n h = omega arith
 weeks_fit true zero h = omega arith
 weeks_fit true (suc n) h = let z = negated (suc n * 7) in omega arith
 
+-- the number is an i32 with its sign
+module _ (negative : Bool) (n : ℕ) (h : n ≤ 300000000) (r : ℤ) (e : r ≡ signed negative n) where
+  small : SFits w32 r
+  small = rw e (signed_fits negative n (omega arith))
+
+  wide : to_z w64 (of_z w64 r) ≡ r
+  wide = to_z-of_z {w = w64} (record { sfits = omega (arith, small.sfits) })
+
+  pub cast_fits : SFits w32 (to_z w64 (of_z w64 r))
+  cast_fits = rw wide small
+
+  cast_is : to_z w32 (of_z w32 (to_z w64 (of_z w64 r))) ≡ signed negative n
+  cast_is = rw (wide, to_z-of_z small) e
+
+-- `ago` turns the sign round
+other_way : (negative ago : Bool) → not (beq negative ago) ≡ if ago (not negative) negative
+other_way true true = refl
+other_way true false = refl
+other_way false true = refl
+other_way false false = refl
+
+pub cast_turned : (negative ago : Bool) (n : ℕ) → n ≤ 300000000 → (r : ℤ) → r ≡ signed (not (beq negative ago)) n → to_z w32 (of_z w32 (to_z w64 (of_z w64 r))) ≡ signed (if ago (not negative) negative) n
+cast_turned negative ago n h r e = cast_is (if ago (not negative) negative) n h r (rw (← other_way negative ago) e)
+
+-- what the code answers for so many units is so many
+days_of : (t : Bool) (v w : Relative) → matched w 0 ≡ if t (matched v 0) none → w ≡ v
+days_of true v w e = cc
+days_of false v w e = let z : ◌≡◌ {A = ℕ} 0 1 = cc in absurd (clash z)
+
+amount_of : (u : TimeUnit) (n : ℤ) (w : Relative) → matched w 0 ≡ times u n [] 0 → w ≡ relative_of u n
+unfolding times days
+amount_of unit.Year n w e = cc
+amount_of unit.Month n w e = cc
+amount_of unit.Fortnight n w e = days_of _ _ w e
+amount_of unit.Week n w e = days_of _ _ w e
+amount_of unit.Day n w e = cc
+amount_of unit.Hour n w e = cc
+amount_of unit.Minute n w e = cc
+amount_of unit.Second n w e = cc
+
 -- ---- the items
 
 -- what stands behind the number
@@ -116,14 +171,16 @@ module _ (many ago negative : Bool) {ds : List ℕ} (n : Number ds) (small : dec
       let g' : given (turned ago (signed negative (decimal ds))) = rw q g in
       rw (← q) (signed_and_unit (no_date_word u many) (way_read ago) (way_no_letter ago) (32 ∷ []) refl bs b l n (omega arith) negative g')
 
-  signed_item : (u : TimeUnit) → Reads parse_item (bs ++ (sign_of negative ∷ (ds ++ count_text u many ago))) (item.Relative (relative_of u (signed (if ago (not negative) negative) (decimal ds)))) []
+  signed_item : (u : TimeUnit) → Short u → Reads parse_item (bs ++ (sign_of negative ∷ (ds ++ count_text u many ago))) (item.Relative (relative_of u (signed (if ago (not negative) negative) (decimal ds)))) []
   unfolding blank
-  signed_item unit.Year = long_signed unit.Year (year_word many) tt
-  signed_item unit.Month = long_signed unit.Month (month_word many) tt
-  signed_item unit.Week = long_signed unit.Week (week_word many) (weeks_fit (if ago (not negative) negative) (decimal ds) small)
-  signed_item unit.Day = long_signed unit.Day (day_word many) tt
-  signed_item unit.Hour = long_signed unit.Hour (hour_word many) tt
-  signed_item unit.Second =
+  signed_item unit.Year few = long_signed unit.Year (year_word many) tt
+  signed_item unit.Month few = long_signed unit.Month (month_word many) tt
+  signed_item unit.Fortnight few = absurd few
+  signed_item unit.Week few = long_signed unit.Week (week_word many) (weeks_fit (if ago (not negative) negative) (decimal ds) small)
+  signed_item unit.Day few = long_signed unit.Day (day_word many) tt
+  signed_item unit.Hour few = long_signed unit.Hour (hour_word many) tt
+  signed_item unit.Minute few = long_signed unit.Minute (minute_word many) tt
+  signed_item unit.Second few =
       said (ap item.Relative (rounded_signed (if ago (not negative) negative) (decimal ds)))
       (signed_seconds (second_unit many) (no_date_word unit.Second many) (way_read ago) (way_no_letter ago) (32 ∷ []) refl bs b n (omega arith) negative)
 
@@ -135,14 +192,16 @@ module _ (many ago : Bool) {ds : List ℕ} (n : Number ds) (short : length ds < 
       let g' : given (turned ago (pos (decimal ds))) = rw q g in
       rw (← q) (number_and_unit (no_date_word u many) (way_read ago) (way_no_letter ago) (32 ∷ []) refl bs b l n (omega arith) (λ z. short_no_date ds short) g')
 
-  plain_item : (u : TimeUnit) → Reads parse_item (bs ++ (ds ++ count_text u many ago)) (item.Relative (relative_of u (signed (if ago true false) (decimal ds)))) []
+  plain_item : (u : TimeUnit) → Short u → Reads parse_item (bs ++ (ds ++ count_text u many ago)) (item.Relative (relative_of u (signed (if ago true false) (decimal ds)))) []
   unfolding blank
-  plain_item unit.Year = long_plain unit.Year (year_word many) tt
-  plain_item unit.Month = long_plain unit.Month (month_word many) tt
-  plain_item unit.Week = long_plain unit.Week (week_word many) (weeks_fit (if ago true false) (decimal ds) small)
-  plain_item unit.Day = long_plain unit.Day (day_word many) tt
-  plain_item unit.Hour = long_plain unit.Hour (hour_word many) tt
-  plain_item unit.Second =
+  plain_item unit.Year few = long_plain unit.Year (year_word many) tt
+  plain_item unit.Month few = long_plain unit.Month (month_word many) tt
+  plain_item unit.Fortnight few = absurd few
+  plain_item unit.Week few = long_plain unit.Week (week_word many) (weeks_fit (if ago true false) (decimal ds) small)
+  plain_item unit.Day few = long_plain unit.Day (day_word many) tt
+  plain_item unit.Hour few = long_plain unit.Hour (hour_word many) tt
+  plain_item unit.Minute few = long_plain unit.Minute (minute_word many) tt
+  plain_item unit.Second few =
       said (ap item.Relative (rounded_signed (if ago true false) (decimal ds)))
       (seconds (second_unit many) (no_date_word unit.Second many) (way_read ago) (way_no_letter ago) (32 ∷ []) refl bs b n (omega arith) (λ z. short_no_date ds short))
 
@@ -189,21 +248,26 @@ ago_written s at (Some n) h e f k =
 ago_written s at None h e f k = never k
 
 -- the name of a unit
-pub unit_answer : (u : TimeUnit) (text : List ℕ) (at n : ℕ) → matched tt n ≡ tag (word_of u) text at → UnitAt text at (Some (u, n))
-unit_answer u = read_word (word_of u)
+pub unit_answer : (u : TimeUnit) → Short u → (text : List ℕ) (at n : ℕ) → matched tt n ≡ tag (word_of u) text at → UnitAt text at (Some (u, n))
+unit_answer u few text at n e = (few, read_word (word_of u) text at n e)
 
--- a blank, a unit and its direction
-module _ (s : List ℕ) (at end n v : ℕ) (u : TimeUnit) (negative : Bool) (k : ℤ) (small : v ≤ 300000000) (h : at < length s) (b : get_or s at 0 ≡ 32) (name : UnitAt (lowered s) (at + 1) (Some (u, end))) (p : Plural (lowered s) end n) where
-  counted : (ago : Bool) → drop n (lowered s) ≡ way_of ago → k ≡ signed (if ago (not negative) negative) v → Counted (lowered s) at negative v u k
-  unfolding lower
-  counted ago e a =
-      record { small = small; many = p.many; ago = ago; written = mark s at 32 h b refl ∙ rw (name, p.written, e); amount = a }
+-- units that are read, with their names in front
+unfoldable pub Table : List (Bor (List ℕ) × TimeUnit) → Type 0
+Table es = AllByRecursion (λ e. Short e.1 × (e.0.now ≡ word_of e.1)) es
 
-  pub counted_here : length s ≤ n → k ≡ signed negative v → Counted (lowered s) at negative v u k
-  counted_here e = counted false (rest_none s n e)
+pub entry_answer : (es : List (Bor (List ℕ) × TimeUnit)) (i : ℕ) (d : Bor (List ℕ) × TimeUnit) → Table es → i < length es → (text : List ℕ) (at n : ℕ) → matched tt n ≡ tag (get_or es i d).0.now text at → UnitAt text at (Some ((get_or es i d).1, n))
+unfolding Table
+entry_answer es i d every h text at n e =
+    let entry = All-from_recursion (λ e. Short e.1 × (e.0.now ≡ word_of e.1)) es every i d h in
+    unit_answer (get_or es i d).1 entry.0 text at n (rw (← entry.1) e)
 
-  pub counted_ago : drop n (lowered s) ≡ way_of true → k ≡ signed (not negative) v → Counted (lowered s) at negative v u k
-  counted_ago = counted true
+-- a blank, a unit and its direction; the code answers as `times` does for the number with its sign
+pub counted : (s : List ℕ) (at end n v : ℕ) (u : TimeUnit) (negative ago : Bool) → v ≤ 300000000 → at < length s → get_or s at 0 ≡ 32 → UnitAt (lowered s) (at + 1) (Some (u, end)) → Plural (lowered s) end n → drop n (lowered s) ≡ way_of ago
+    → {k : ℤ} → k ≡ signed (if ago (not negative) negative) v → (r : Option Relative) → ((text : List ℕ) (place : ℕ) → found_at place r ≡ times u k text place) → CountAt (lowered s) at negative v r
+unfolding lower
+counted s at end n v u negative ago small h b name p e {k} g (Some w) f =
+    record { small = small; unit = u; short = name.0; many = p.many; ago = ago; written = mark s at 32 h b refl ∙ rw (name.1, p.written, e); amount = rw (← g) (amount_of u _ w (f [] 0)) }
+counted s at end n v u negative ago small h b name p e g None f = tt
 
 -- where the digits begin
 pub behind_sign : (b at : ℕ) (negative : Bool) → b ≡ sign_of negative → BehindSign b at (at + 1)
@@ -223,32 +287,32 @@ module _ (s : List ℕ) (at v n : ℕ) (h : at < length s) where
   there : at < length (lowered s)
   there = rw (length_lowered s) h
 
-  signed_answer : (negative : Bool) → get_or s at 0 ≡ sign_of negative → Digits (lowered s) (at + 1) n v → (r : Option (TimeUnit × ℤ)) → CountAt (lowered s) n negative v r → ShiftAt (lowered s) at r
+  signed_answer : (negative : Bool) → get_or s at 0 ≡ sign_of negative → Digits (lowered s) (at + 1) n v → (r : Option Relative) → CountAt (lowered s) n negative v r → ShiftAt (lowered s) at r
   signed_answer negative e d (Some got) c =
-      let w : drop at (lowered s) ≡ sign_of negative ∷ (slice (at + 1) n (lowered s) ++ count_text got.0 c.many c.ago) =
+      let w : drop at (lowered s) ≡ sign_of negative ∷ (slice (at + 1) n (lowered s) ++ count_text c.unit c.many c.ago) =
       mark s at (sign_of negative) h e (sign_lower negative) ∙ rw (part (lowered s) (at + 1) n d.forward, c.written, append_assoc) in
       let small : decimal (slice (at + 1) n (lowered s)) ≤ 300000000 = rw d.value c.small in
       record {
         still = rw w (sign-still negative (number_head _ d.number));
         there = there;
-        reads = λ bs b. rw (w, c.amount, ← d.value) (signed_item c.many c.ago negative d.number small bs b got.0);
+        reads = λ bs b. rw (w, c.amount, ← d.value) (signed_item c.many c.ago negative d.number small bs b c.unit c.short);
         no_time = rw w (signed_no_time negative _ (number_head _ d.number));
       }
   signed_answer negative e d None c = tt
 
-  plain_answer : Digits (lowered s) at n v → n - at ≤ 4 → (r : Option (TimeUnit × ℤ)) → CountAt (lowered s) n false v r → ShiftAt (lowered s) at r
+  plain_answer : Digits (lowered s) at n v → n - at ≤ 4 → (r : Option Relative) → CountAt (lowered s) n false v r → ShiftAt (lowered s) at r
   plain_answer d four (Some got) c =
-      let w : drop at (lowered s) ≡ slice at n (lowered s) ++ count_text got.0 c.many c.ago = part (lowered s) at n d.forward ∙ rw (c.written, append_assoc) in
+      let w : drop at (lowered s) ≡ slice at n (lowered s) ++ count_text c.unit c.many c.ago = part (lowered s) at n d.forward ∙ rw (c.written, append_assoc) in
       let small : decimal (slice at n (lowered s)) ≤ 300000000 = rw d.value c.small in
       let size = length-slice at n (lowered s) d.within in
       record {
         still = rw w (number_still _ d.number);
         there = there;
-        reads = λ bs b. rw (w, c.amount, ← d.value) (plain_item c.many c.ago d.number (omega arith) small bs b got.0);
-        no_time = rw w (plain_no_time c.many c.ago d.number got.0);
+        reads = λ bs b. rw (w, c.amount, ← d.value) (plain_item c.many c.ago d.number (omega arith) small bs b c.unit c.short);
+        no_time = rw w (plain_no_time c.many c.ago d.number c.unit);
       }
   plain_answer d four None c = tt
 
-  pub shift_answer : (start : ℕ) → BehindSign (get_or s at 0) at start → Digits (lowered s) start n v → (start ≡ at → n - at ≤ 4) → (r : Option (TimeUnit × ℤ)) → CountAt (lowered s) n (eqb (get_or s at 0) 45) v r → ShiftAt (lowered s) at r
+  pub shift_answer : (start : ℕ) → BehindSign (get_or s at 0) at start → Digits (lowered s) start n v → (start ≡ at → n - at ≤ 4) → (r : Option Relative) → CountAt (lowered s) n (eqb (get_or s at 0) 45) v r → ShiftAt (lowered s) at r
   shift_answer start (inl (e, f)) d four r c = plain_answer (rw e at d) (four e) r (rw f at c)
   shift_answer start (inr (e, f)) d four r c = signed_answer (eqb (get_or s at 0) 45) f (rw e at d) r c

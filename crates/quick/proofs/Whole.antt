@@ -7,7 +7,6 @@ use mathlib.Core.Path.{◌≡◌, refl, sym, ap, ◌∙◌}
 use mathlib.Core.Bool.{true}
 use mathlib.Core.List.{List, [], ◌∷◌, ◌++◌}
 use lib.ListN.{length, get_or}
-use lib.IntN.{ℤ}
 use borrow.Author.Tests.{le-leb}
 use Rattle.std.proofs.Math.Nat.{le-max_left, le-max_right}
 use Rattle.extended.specs.Outcome.{Outcome, accepted}
@@ -31,9 +30,8 @@ use Rattle.extended.specs.Placed.{fine, placed}
 use Rattle.builder.specs.Building.{add_relative, build}
 use Rattle.reading.specs.Reading.{ascii, ascii_end, items_of, build_text, read_text}
 use Rattle.reading.proofs.Steps.{ascii_low, all_read}
-use Rattle.quick.specs.Shifts.{relative_of, Shift}
+use Rattle.quick.specs.Shifts.{Shift}
 use Rattle.quick.specs.Shapes.{Fronts, day_alone, combined, apart, Shaped, record_of, AtOnce}
-use Rattle.quick.specs.declared.shifts.TimeUnit.{TimeUnit}
 use Rattle.quick.specs.declared.Shape.{Shape}
 use Rattle.builder.proofs.DateAndTime.{day_built, day_moved, combined_built, combined_moved, apart_built, apart_moved}
 
@@ -73,14 +71,14 @@ module _ {text : List ℕ} (base : ExtendedDateTime) {x : Shape} (a : Shaped tex
       listed text base (f.whole h) ∙ (front_built base tb x t f.fronts ∙ ap fine (same s))
 
   -- with a relative item behind them
-  pub moved_at_once : (r : ExtendedDateTime) → accepted r ≡ accept whole → {u : TimeUnit} {n : ℤ} → Shift text x.next u n → (q : ExtendedDateTime) → accepted q ≡ add_relative (relative_of u n) r → AtOnce text base (Some q)
-  moved_at_once r k {u} {n} sh q g = λ tb.
+  pub moved_at_once : (r : ExtendedDateTime) → accepted r ≡ accept whole → {v : Relative} → Shift text x.next v → (q : ExtendedDateTime) → accepted q ≡ add_relative v r → AtOnce text base (Some q)
+  moved_at_once r k {v} sh q g = λ tb.
       let (t, s) = passed (sym k) in
       let f = a.front (there base tb x t) in
-      listed text base (f.moved u n sh) ∙ (front_moved base tb x t (relative_of u n) f.fronts ∙ rw (same s, ← g))
+      listed text base (f.moved v sh) ∙ (front_moved base tb x t v f.fronts ∙ rw (same s, ← g))
 
   -- or with none, where the item moves the record out of the years
-  pub moved_if : (r : ExtendedDateTime) → accepted r ≡ accept whole → {u : TimeUnit} {n : ℤ} → Shift text x.next u n → (q : Result ExtendedDateTime Refusal) → outcome_of q ≡ add_relative (relative_of u n) r → AtOnce text base (result_ok q)
+  pub moved_if : (r : ExtendedDateTime) → accepted r ≡ accept whole → {v : Relative} → Shift text x.next v → (q : Result ExtendedDateTime Refusal) → outcome_of q ≡ add_relative v r → AtOnce text base (result_ok q)
   moved_if r k sh (Ok q) g = moved_at_once r k sh q g
   moved_if r k sh (Err e) g = tt
 

@@ -6,7 +6,7 @@ use Rattle.primitive.specs.Text.{blank, digit}
 use Rattle.primitive.proofs.Rows.{all}
 use Rattle.dates.specs.Date.{date_of, exists}
 use Rattle.dates.specs.declared.date.Date.{Date}
-use Rattle.extended.specs.declared.DateParts.{DateParts}
+use Rattle.calendar.specs.declared.Civil.{Civil}
 use Rattle.items.specs.Items.{iso_date, parse_item}
 use Rattle.items.specs.declared.Item.TheVariants as item
 use Rattle.forms.proofs.Walk.{Reads}
@@ -27,7 +27,7 @@ pub record Iso (text : List ℕ) (y m d n : ℕ) : Type 0 where
   pub begins : digit (head text) ≡ true
   pub reads : exists y m d ≡ true → digit (head (drop n text)) ≡ false → Reads iso_date text (day_of y m d) (drop n text)
 
-abbrev pub IsoDate : List ℕ → Option (DateParts × ℕ) → Type 0
+abbrev pub IsoDate : List ℕ → Option (Civil ℕ × ℕ) → Type 0
 IsoDate text (Some p) = let t = p.0 in Iso text t.year t.month t.day p.1
 IsoDate text None = Unit {0}
 
@@ -41,7 +41,7 @@ pub record Other (text : List ℕ) (y m d n : ℕ) : Type 0 where
   pub blanks : all blank gap ≡ true
   pub reads : exists y m d ≡ true → Reads parse_item text (item.Date (day_of y m d)) (gap ++ drop n text)
 
-abbrev pub OtherDate : List ℕ → Option (DateParts × ℕ) → Type 0
+abbrev pub OtherDate : List ℕ → Option (Civil ℕ × ℕ) → Type 0
 OtherDate text (Some p) = let t = p.0 in Other text t.year t.month t.day p.1
 OtherDate text None = Unit {0}
 
@@ -54,7 +54,7 @@ pub record EndedYear (text : List ℕ) (at y n : ℕ) : Type 0 where
   pub ending : Ending (drop (at + 4) text) (drop n text)
   pub within : n ≤ length text
 
-abbrev pub YearAt : List ℕ → ℕ → ℕ → ℕ → Option (DateParts × ℕ) → Type 0
+abbrev pub YearAt : List ℕ → ℕ → ℕ → ℕ → Option (Civil ℕ × ℕ) → Type 0
 YearAt text at m d (Some p) = let t = p.0 in (t.month ≡ m) × (t.day ≡ d) × EndedYear text at t.year p.1
 YearAt text at m d None = Unit {0}
 
@@ -66,7 +66,7 @@ pub record DayYear (text : List ℕ) (at y d n : ℕ) : Type 0 where
   pub slash : drop to text ≡ 47 ∷ drop (to + 1) text
   pub year : EndedYear text (to + 1) y n
 
-abbrev pub UsDate : List ℕ → ℕ → ℕ → Option (DateParts × ℕ) → Type 0
+abbrev pub UsDate : List ℕ → ℕ → ℕ → Option (Civil ℕ × ℕ) → Type 0
 UsDate text at m (Some p) = let t = p.0 in (t.month ≡ m) × DayYear text at t.year t.day p.1
 UsDate text at m None = Unit {0}
 
@@ -88,6 +88,6 @@ pub record MonthYear (text : List ℕ) (at y m n : ℕ) : Type 0 where
   pub name : Named text at m to
   pub year : EndedYear text (to + 1) y n
 
-abbrev pub DayMonthDate : List ℕ → ℕ → ℕ → Option (DateParts × ℕ) → Type 0
+abbrev pub DayMonthDate : List ℕ → ℕ → ℕ → Option (Civil ℕ × ℕ) → Type 0
 DayMonthDate text at d (Some p) = let t = p.0 in (t.day ≡ d) × MonthYear text at t.year t.month p.1
 DayMonthDate text at d None = Unit {0}

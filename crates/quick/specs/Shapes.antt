@@ -1,8 +1,8 @@
 -- What is known of a text where a quick reader answers its date and time: which items the definitions read, and what is built of them.
-use Rattle.std.specs.Prelude.{Option, Some, None, ℕ, ◌+◌, ◌<◌, ◌≤◌, ◌≡◌, Bool, true, List, [], ◌∷◌, ◌++◌, length, drop, ℤ}
+use Rattle.std.specs.Prelude.{Option, Some, None, ℕ, ◌+◌, ◌≤◌, ◌≡◌, Bool, true, List, [], ◌∷◌, ◌++◌, length, drop, ℤ}
 use Rattle.extended.specs.Outcome.{accepted}
 use Rattle.extended.specs.Extended.{make, time, test}
-use Rattle.extended.specs.declared.DateParts.{DateParts}
+use Rattle.calendar.specs.declared.Civil.{Civil}
 use Rattle.extended.specs.declared.ExtendedDateTime.{ExtendedDateTime}
 use Rattle.dates.specs.Date.{exists}
 use Rattle.times.specs.declared.time.Time.{Time}
@@ -15,8 +15,8 @@ use Rattle.builder.proofs.DateAndTime.{offset_or}
 use Rattle.reading.specs.Reading.{build_text}
 use Rattle.quick.specs.Days.{day_of}
 use Rattle.quick.specs.Clocks.{time_of}
-use Rattle.quick.specs.Shifts.{relative_of, Shift}
-use Rattle.quick.specs.declared.shifts.TimeUnit.{TimeUnit}
+use Rattle.relative.specs.declared.Relative.{Relative}
+use Rattle.quick.specs.Shifts.{Shift}
 use Rattle.quick.specs.declared.Shape.{Shape}
 
 -- the start of a day
@@ -37,7 +37,7 @@ pub record Front (text : List ℕ) (x : Shape) : Type 0 where
   pub items : List Item
   pub fronts : Fronts x items
   pub whole : length text ≤ x.next → parse_items text ≡ ended items 0 0
-  pub moved : (u : TimeUnit) (n : ℤ) → Shift text x.next u n → parse_items text ≡ ended (items ++ ((item.Relative (relative_of u n)) ∷ [])) 0 0
+  pub moved : (v : Relative) → Shift text x.next v → parse_items text ≡ ended (items ++ ((item.Relative v) ∷ [])) 0 0
 
 pub record Shaped (text : List ℕ) (x : Shape) : Type 0 where
   pub front : exists x.date.year x.date.month x.date.day ≡ true → Front text x
@@ -46,7 +46,7 @@ abbrev pub ShapeOf : List ℕ → Option Shape → Type 0
 ShapeOf text (Some x) = Shaped text x
 ShapeOf text None = Unit {0}
 
-abbrev pub at_midnight : DateParts → ℕ → Shape
+abbrev pub at_midnight : Civil ℕ → ℕ → Shape
 at_midnight d n = record { date = d; time = midnight; next = n }
 
 -- a blank or a `t`, with a byte behind it

@@ -11,13 +11,7 @@ use times::time::Time;
 pub(crate) fn clock(s: &[u8], at: usize) -> Option<(Time, usize)>
     ensures { ClockAt (lowered s.now) at result }
 {
-    if s.len() < 5 {
-        return None;
-    }
-    if s.len() - 5 < at {
-        return None;
-    }
-    if s[at + 2] != 58 {
+    if s.len() < 5 || s.len() - 5 < at || s[at + 2] != b':' {
         return None;
     }
     let hour = rows::two(s, at)?;
@@ -46,13 +40,7 @@ pub(crate) fn clock(s: &[u8], at: usize) -> Option<(Time, usize)>
 fn second(s: &[u8], at: usize, hour: u8, minute: u8) -> Option<(Time, usize)>
     ensures { SecondAt (lowered s.now) at hour minute result }
 {
-    if s.len() < 3 {
-        return None;
-    }
-    if s.len() - 3 < at {
-        return None;
-    }
-    if s[at] != 58 {
+    if s.len() < 3 || s.len() - 3 < at || s[at] != b':' {
         return None;
     }
     let second = rows::two(s, at + 1)?;
@@ -77,23 +65,15 @@ fn second(s: &[u8], at: usize, hour: u8, minute: u8) -> Option<(Time, usize)>
 fn fraction_and_zone(s: &[u8], at: usize, hour: u8, minute: u8, second: u8) -> Option<(Time, usize)>
     ensures { ZoneAt (lowered s.now) at hour minute second result }
 {
-    if s.len() < 16 {
-        return None;
-    }
-    if s.len() - 16 < at {
-        return None;
-    }
-    if s[at] != 46 {
+    if s.len() < 16 || s.len() - 16 < at || s[at] != b'.' {
         return None;
     }
     let nanosecond = rows::nine(s, at + 1)?;
     let sign = s[at + 10];
-    if sign != 43 {
-        if sign != 45 {
-            return None;
-        }
+    if sign != b'+' && sign != b'-' {
+        return None;
     }
-    if s[at + 13] != 58 {
+    if s[at + 13] != b':' {
         return None;
     }
     let hours = rows::two(s, at + 11)?;
@@ -105,7 +85,7 @@ fn fraction_and_zone(s: &[u8], at: usize, hour: u8, minute: u8, second: u8) -> O
         return None;
     }
     let offset = Offset {
-        negative: sign == 45,
+        negative: sign == b'-',
         hours,
         minutes,
     };
@@ -120,17 +100,11 @@ fn fraction_and_zone(s: &[u8], at: usize, hour: u8, minute: u8, second: u8) -> O
     if end == s.len() {
         return Some((time, end));
     }
-    if s[end] != 32 {
+    if s[end] != b' ' {
         return None;
     }
     let next = end + 1;
-    if s.len() <= next {
-        return None;
-    }
-    if s[next] < 43 {
-        return None;
-    }
-    if 57 < s[next] {
+    if s.len() <= next || s[next] < b'+' || b'9' < s[next] {
         return None;
     }
     Some((time, next))
@@ -141,47 +115,24 @@ pub(crate) fn half_day(s: &[u8], at: usize) -> Option<(Time, usize)>
     ensures { HalfDayAt (lowered s.now) at result }
 {
     let (hour, next) = rows::short(s, at)?;
-    if hour < 1 {
-        return None;
-    }
-    if 12 < hour {
-        return None;
-    }
-    if s.len() - next != 6 {
-        return None;
-    }
-    if s[next] != 58 {
+    if hour < 1 || 12 < hour || s.len() - next != 6 || s[next] != b':' {
         return None;
     }
     let minute = rows::two(s, next + 1)?;
-    if 59 < minute {
+    if 59 < minute || s[next + 3] != b' ' || s[next + 5] != b'm' {
         return None;
     }
-    if s[next + 3] != 32 {
-        return None;
-    }
-    if s[next + 5] != 109 {
-        return None;
-    }
-    if s[next + 4] == 97 {
-        let time = Time {
-            hour: hour % 12,
-            minute,
-            second: 0,
-            nanosecond: 0,
-            offset: None,
-        };
-        return Some((time, next + 6));
-    }
-    if s[next + 4] == 112 {
-        let time = Time {
-            hour: hour % 12 + 12,
-            minute,
-            second: 0,
-            nanosecond: 0,
-            offset: None,
-        };
-        return Some((time, next + 6));
-    }
-    None
+    let hour = match s[next + 4] {
+        b'a' => hour % 12,
+        b'p' => hour % 12 + 12,
+        _ => return None,
+    };
+    let time = Time {
+        hour,
+        minute,
+        second: 0,
+        nanosecond: 0,
+        offset: None,
+    };
+    Some((time, next + 6))
 }

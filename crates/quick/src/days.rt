@@ -12,13 +12,7 @@ use extended::DateParts;
 pub(crate) fn iso_date(s: &[u8]) -> Option<(DateParts, usize)>
     ensures { IsoDate (lowered s.now) result }
 {
-    if s.len() < 10 {
-        return None;
-    }
-    if s[4] != 45 {
-        return None;
-    }
-    if s[7] != 45 {
+    if s.len() < 10 || s[4] != b'-' || s[7] != b'-' {
         return None;
     }
     let year = rows::four(s, 0)?;
@@ -32,10 +26,10 @@ pub(crate) fn number_date(s: &[u8]) -> Option<(DateParts, usize)>
     ensures { OtherDate (lowered s.now) result }
 {
     let (first, at) = rows::short(s, 0)?;
-    if s[at] == 47 {
+    if s[at] == b'/' {
         return us_date(s, at + 1, first);
     }
-    if s[at] != 32 {
+    if s[at] != b' ' {
         return None;
     }
     day_month_date(s, at + 1, first)
@@ -46,7 +40,7 @@ fn us_date(s: &[u8], at: usize, month: u8) -> Option<(DateParts, usize)>
     ensures { UsDate (lowered s.now) at month result }
 {
     let (day, at) = rows::short(s, at)?;
-    if s[at] != 47 {
+    if s[at] != b'/' {
         return None;
     }
     year(s, at + 1, month, day)
@@ -66,14 +60,8 @@ pub(crate) fn name_date(s: &[u8]) -> Option<(DateParts, usize)>
 {
     let (month, end) = month_name(s, 0)?;
     let (day, at) = rows::short(s, end + 1)?;
-    if s[at] != 44 {
-        return None;
-    }
     let next = at + 1;
-    if s.len() <= next {
-        return None;
-    }
-    if s[next] != 32 {
+    if s[at] != b',' || s.len() <= next || s[next] != b' ' {
         return None;
     }
     year(s, next + 1, month, day)
@@ -84,10 +72,7 @@ pub(crate) fn name_date(s: &[u8]) -> Option<(DateParts, usize)>
 fn year(s: &[u8], at: usize, month: u8, day: u8) -> Option<(DateParts, usize)>
     ensures { YearAt (lowered s.now) at month day result }
 {
-    if s.len() < 4 {
-        return None;
-    }
-    if s.len() - 4 < at {
+    if s.len() < 4 || s.len() - 4 < at {
         return None;
     }
     let year = rows::four(s, at)?;
@@ -95,14 +80,8 @@ fn year(s: &[u8], at: usize, month: u8, day: u8) -> Option<(DateParts, usize)>
     if end == s.len() {
         return Some((DateParts { year, month, day }, end));
     }
-    if s[end] != 32 {
-        return None;
-    }
     let next = end + 1;
-    if s.len() <= next {
-        return None;
-    }
-    if s[next] <= 32 {
+    if s[end] != b' ' || s.len() <= next || s[next] <= b' ' {
         return None;
     }
     Some((DateParts { year, month, day }, next))
@@ -112,12 +91,10 @@ fn year(s: &[u8], at: usize, month: u8, day: u8) -> Option<(DateParts, usize)>
 fn month_name(s: &[u8], at: usize) -> Option<(u8, usize)>
     ensures { NamedAt (lowered s.now) at result }
 {
-    let end = primitive::alpha1(s, at)?;
-    if s.len() <= end {
+    let (word, end) = primitive::alpha1(s, at)?;
+    if s.len() <= end || s[end] != b' ' {
         return None;
     }
-    if s[end] != 32 {
-        return None;
-    }
-    months::month_named(s, at, end)
+    let month = months::month_named(word)?;
+    Some((month, end))
 }

@@ -14,14 +14,11 @@ ghost use Rattle.std.specs.Prelude.{◌≡◌, true, ◌<◌, ◌≤◌, length}
 ghost use Rattle.primitive.specs.Text.{lowered};
 ghost use Rattle.extended.specs.Extended.{accept};
 ghost use Rattle.extended.specs.Refusals.{outcome_of, placed_of};
-ghost use Rattle.builder.specs.Building.{add_relative};
 ghost use Rattle.builder.proofs.DateAndTime.{offset_or};
 ghost use Rattle.reading.specs.Reading.{ascii_end, read_text};
 ghost use Rattle.quick.specs.Days.{OtherDate};
-ghost use Rattle.quick.specs.Shifts.{relative_of};
 ghost use Rattle.quick.specs.Shapes.{ShapeOf, SeparatorAt, at_midnight, record_of, AtOnce};
 
-use crate::shifts::TimeUnit;
 use extended::{DateParts, ExtendedDateTime, PlacedRefusal, Refusal, TimeParts};
 use times::offset::Offset;
 use times::time::Time;
@@ -41,13 +38,9 @@ struct Shape {
 pub fn read_text(text: &[u8], base: ExtendedDateTime) -> Result<ExtendedDateTime, PlacedRefusal>
     ensures { placed_of result ≡ read_text text.now base }
 {
-    if base.test().is_ok() {
-        if text.len() <= LONGEST {
-            if highest(text) < 128 {
-                if let Some(dt) = at_once(text, base) {
-                    return Ok(dt);
-                }
-            }
+    if base.test().is_ok() && text.len() <= LONGEST && highest(text) < 128 {
+        if let Some(dt) = at_once(text, base) {
+            return Ok(dt);
         }
     }
     reading::read_text(text, base)
@@ -73,8 +66,8 @@ fn at_once(s: &[u8], base: ExtendedDateTime) -> Option<ExtendedDateTime>
     if s.len() <= x.next {
         return Some(dt);
     }
-    let (unit, n) = crate::shifts::shift(s, x.next)?;
-    moved(dt, unit, n).ok()
+    let relative = crate::shifts::shift(s, x.next)?;
+    builder::add_relative(relative, dt).ok()
 }
 
 // The date and the time of day at the front of a text.
@@ -84,7 +77,7 @@ fn read_shape(s: &[u8]) -> Option<Shape>
     if s.len() < 8 {
         return None;
     }
-    if s[4] == 45 {
+    if s[4] == b'-' {
         return iso_shape(s);
     }
     other_shape(s)
@@ -95,7 +88,7 @@ fn other_date(s: &[u8]) -> Option<(DateParts, usize)>
     requires { 0 < length s.now }
     ensures { OtherDate (lowered s.now) result }
 {
-    if 57 < s[0] {
+    if b'9' < s[0] {
         return crate::days::name_date(s);
     }
     crate::days::number_date(s)
@@ -115,31 +108,19 @@ fn iso_shape(s: &[u8]) -> Option<Shape>
         let (time, next) = crate::clocks::clock(s, start)?;
         return Some(Shape { date, time, next });
     }
-    if b == 32 {
+    if b == b' ' {
         return Some(midnight(date, start));
     }
     None
 }
 
 // Whether a blank or a `t` stands there, and a time of two digits, a colon and more seems to follow.
+#[tactic(auto, using(crate::proofs::Fronts::separator_at))]
 fn timed(s: &[u8], at: usize) -> bool
     requires { at < length s.now }
     ensures { result ≡ true → SeparatorAt (lowered s.now) at }
 {
-    if s.len() - at < 4 {
-        return false;
-    }
-    if s[at + 3] != 58 {
-        return false;
-    }
-    let b = primitive::to_lower(s[at]);
-    if b == 32 {
-        return true;
-    }
-    if b == 116 {
-        return true;
-    }
-    false
+    s.len() - at >= 4 && s[at + 3] == b':' && matches!(primitive::to_lower(s[at]), b' ' | b't')
 }
 
 // The start of a day.
@@ -171,16 +152,7 @@ fn other_shape(s: &[u8]) -> Option<Shape>
 
 // Whether a colon stands behind one byte or two.
 fn clocked(s: &[u8], at: usize) -> bool {
-    if s.len() < 3 {
-        return false;
-    }
-    if s.len() - 3 < at {
-        return false;
-    }
-    if s[at + 1] == 58 {
-        return true;
-    }
-    s[at + 2] == 58
+    s.len() >= 3 && at <= s.len() - 3 && (s[at + 1] == b':' || s[at + 2] == b':')
 }
 
 // The record of a shape, at the offset of the base where it has none.
@@ -200,23 +172,5 @@ fn moment(x: Shape, base: i32) -> Result<ExtendedDateTime, Refusal>
 fn offset_or(base: i32, given: Option<Offset>) -> i32
     ensures { result ≡ offset_or base given }
 {
-    match given {
-        Some(offset) => offset.total_seconds(),
-        None => base,
-    }
-}
-
-// A record so many units away.
-#[tactic(auto, unfolding(builder::specs::Building::add_relative))]
-fn moved(dt: ExtendedDateTime, unit: TimeUnit, n: i32) -> Result<ExtendedDateTime, Refusal>
-    ensures { outcome_of result ≡ add_relative (relative_of unit n) dt }
-{
-    match unit {
-        TimeUnit::Year => sums::checked_add_years(dt, n),
-        TimeUnit::Month => sums::checked_add_months(dt, n),
-        TimeUnit::Week => sums::checked_add_days(dt, i64::from(n) * 7),
-        TimeUnit::Day => sums::checked_add_days(dt, i64::from(n)),
-        TimeUnit::Hour => sums::checked_add_hours(dt, i64::from(n)),
-        TimeUnit::Second => moments::checked_add_seconds(dt, i64::from(n), 0),
-    }
+    given.map_or(base, |offset| offset.total_seconds())
 }

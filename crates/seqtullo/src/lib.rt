@@ -158,10 +158,11 @@ pub extern "C" fn seqtullo_read_packet(packet: &[u8], base: Record) -> Answer
 }
 
 // Writes the record's text to the front of `out`; a refusal writes nothing.
+#[tactic(auto, using(writer::proofs::Writing::length_kept))]
 #[unsafe(no_mangle)]
 pub extern "C" fn seqtullo_write(record: Record, out: &mut [u8]) -> Written
     ensures value { result ≡ written_answer (written «record» (length out.old)) }
     ensures out_after { out.new ≡ over (bytes_of (written «record» (length out.old))) out.old }
 {
-    writer::write(record, out)
+    writer::write(record, out).into()
 }

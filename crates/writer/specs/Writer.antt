@@ -1,6 +1,6 @@
 -- The text of a record, and what writing it answers: document 01, 'Packet and text' and 'The counted calendar'.
-use Rattle.std.specs.Prelude.{ℕ, zero, suc, ◌+◌, ◌/◌, ◌%◌, max, Bool, true, false, cond, List, [], ◌∷◌, ◌++◌, eqb, ltb, leb, ℤ, pos, negsuc, nat_abs, length, drop}
-use Rattle.extended.specs.Outcome.{Outcome, accepted, number, value_or, check, ◌>>◌}
+use Rattle.std.specs.Prelude.{ℕ, zero, suc, ◌+◌, ◌/◌, ◌%◌, max, min, Bool, true, false, cond, List, [], ◌∷◌, ◌++◌, eqb, ltb, leb, ℤ, pos, negsuc, nat_abs, length, drop}
+use Rattle.extended.specs.Outcome.{Outcome, accepted, refused, number, value_or, check, ◌>>◌}
 use Rattle.extended.specs.Extended.{test}
 use Rattle.extended.specs.declared.ExtendedDateTime.{ExtendedDateTime}
 use Rattle.writer.specs.declared.Written.{Written}
@@ -76,7 +76,16 @@ written r room = do
 abbrev pub bytes_of : Outcome (List ℕ) → List ℕ
 bytes_of o = value_or [] o
 
--- "where a length .. was wanted, it is 0"
+-- how many bytes are written
+abbrev pub written_length : Outcome (List ℕ) → Outcome ℕ
+written_length (accepted text) = accepted (length text)
+written_length (refused n) = refused n
+
+-- "where a length .. was wanted, it is 0"; the length's field ends at 4294967295
+unfoldable pub length_answer : Outcome ℕ → Written
+length_answer o = record { number = number o; length = min (value_or 0 o) 4294967295 }
+
+-- the same of a text that is written
 abbrev pub written_answer : Outcome (List ℕ) → Written
 written_answer o = record { number = number o; length = length (bytes_of o) }
 

@@ -1,21 +1,20 @@
 // The text of a record, as 0005-01-02 03:04:05.000000006+00:00.
 //
 // The text is built as one value of 41 bytes and a length, to whose end each part is put, and is
-// copied out at the end. A record that `new` refuses gets `new`'s number, an offset that is not whole
-// minutes 20, a lent place that is too short 19; a refusal writes nothing.
+// copied out at the end. A record that `new` refuses gets `new`'s refusal, an offset that is not whole
+// minutes `Seam`, a lent place that is too short `Short`; a refusal writes nothing.
 #![tactic(auto)]
 
 mod text;
 
 ghost use Rattle.std.specs.Prelude.{◌≡◌, ◌≤◌, max, length};
-ghost use Rattle.extended.specs.Outcome.{refused};
-ghost use Rattle.extended.specs.Refusals.{code};
-ghost use Rattle.writer.specs.Writer.{fixed, width, negative, sign_of, text_of, written, bytes_of, written_answer, over};
+ghost use Rattle.extended.specs.Refusals.{outcome_of};
+ghost use Rattle.writer.specs.Writer.{fixed, width, negative, sign_of, text_of, written, bytes_of, written_length, length_answer, over};
 
 use extended::{ExtendedDateTime, Refusal};
 use text::Text;
 
-// The number of the answer, and how many bytes were written.
+// What C is answered: the number of the answer, and how many bytes were written.
 #[repr(C)]
 #[derive(Clone, Copy)]
 pub struct Written {
@@ -23,39 +22,44 @@ pub struct Written {
     pub length: u32,
 }
 
-// Writes the text of a record to the front of the lent place.
-pub fn write(record: ExtendedDateTime, out: &mut [u8]) -> Written
-    ensures value { result ≡ written_answer (written «record» (length out.old)) }
+// No text is longer than 41 bytes; a length that the field can't hold would be the largest that it can.
+impl From<Result<usize, Refusal>> for Written {
+    ghost from_gives = { λ made answer. answer ≡ length_answer (outcome_of made) };
+
+    #[tactic(auto, unfolding(crate::specs::Writer::length_answer))]
+    fn from(made: Result<usize, Refusal>) -> Written {
+        match made {
+            Ok(length) => Written {
+                number: 0,
+                length: u32::try_from(length).unwrap_or(u32::MAX),
+            },
+            Err(refusal) => Written {
+                number: u32::from(refusal),
+                length: 0,
+            },
+        }
+    }
+}
+
+// Writes the text of a record to the front of the lent place; answered is how many bytes it has.
+#[tactic(auto, unfolding(crate::specs::Writer::written))]
+pub fn write(record: ExtendedDateTime, out: &mut [u8]) -> Result<usize, Refusal>
+    ensures value { outcome_of result ≡ written_length (written «record» (length out.old)) }
     ensures out_after { out.new ≡ over (bytes_of (written «record» (length out.old))) out.old }
 {
-    if let Err(refusal) = record.test() {
-        return refused(refusal);
-    }
+    record.test()?;
     let offset = record.offset_seconds.unsigned_abs();
     if offset % 60 > 0 {
-        return refused(Refusal::Seam);
+        return Err(Refusal::Seam);
     }
     let text = text_of(record);
     let bytes = text.as_bytes();
     let n = bytes.len();
     if n > out.len() {
-        return refused(Refusal::Short);
+        return Err(Refusal::Short);
     }
     out[..n].copy_from_slice(bytes);
-    Written {
-        number: 0,
-        length: n as u32,
-    }
-}
-
-// A refusal writes nothing.
-fn refused(refusal: Refusal) -> Written
-    ensures { result ≡ written_answer (refused (code refusal)) }
-{
-    Written {
-        number: u32::from(refusal),
-        length: 0,
-    }
+    Ok(n)
 }
 
 // The whole text.

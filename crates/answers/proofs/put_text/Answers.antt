@@ -2,6 +2,7 @@
 use borrow.Author.Rules.{rules}
 use Prim.Native.Nat.{◌≤◌}
 use lib.ListN.{length}
+use Rattle.extended.specs.Refusals.{outcome_of}
 use Rattle.answers.proofs.Part.{text_number, text_put}
 use Rattle.answers.proofs.put_text.Goals as goal
 
@@ -11,6 +12,6 @@ returns c =
     let w = c.write in
     let h : 43 ≤ length a.out.now = search rules in
     record {
-      number_value = text_number a.«record» a.out.now w.new.out w.result h w.ensures.value;
-      put = text_put a.«record» a.out.now w.new.out w.result h w.ensures.value w.ensures.out_after;
+      number_value = text_number a.«record» a.out.now w.new.out (outcome_of w.result) h w.ensures.value;
+      put = text_put a.«record» a.out.now w.new.out (outcome_of w.result) h w.ensures.value w.ensures.out_after;
     }

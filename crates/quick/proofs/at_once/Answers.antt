@@ -20,6 +20,5 @@ returns-then-s-x c =
 pub returns : goal.returns
 returns c =
     let base_fits : SFits w32 c.args.base.offset_seconds = search rules in
-    let amount_fits : SFits w32 c.in_ok-unit.n = search rules in
     let made : accepted c.in_ok-dt.dt ≡ accept (record_of c.in_ok-x.x c.args.base.offset_seconds) = held {a = c.in_ok-dt.dt} c.moment.result c.in_ok-dt.ensures.value (rw (to_z-of_z base_fits) at c.moment.ensures) in
-    rw c.ok-2.ensures.value (moved_if c.args.base c.in_ok-x.ensures _ made c.in_ok-unit.ensures _ (rw (to_z-of_z amount_fits) at c.moved.ensures))
+    rw c.ok-2.ensures.value (moved_if c.args.base c.in_ok-x.ensures _ made c.in_ok-relative.ensures _ c.add_relative.ensures)

@@ -5,6 +5,4 @@ use Rattle.quick.proofs.read_text.Goals as goal
 
 pub returns-in-Some : goal.returns-in-Some
 returns-in-Some c =
-    let h = c in
-    let r = h in
-    read_at_once _ _ (passing _ (sym r.is_ok.ensures.value ∙ h.if-is_ok.true) r.test.ensures) h.if-text-le-LONGEST.true (h.highest.ensures c.if-highest-lt128.true) c.in-Some.ensures
+    read_at_once _ _ (passing _ (sym c.is_ok.ensures.value ∙ c.if-is_ok.true) c.test.ensures) c.if-text-le-LONGEST.true (c.highest.ensures c.if-highest-lt128.true) c.in-Some.ensures

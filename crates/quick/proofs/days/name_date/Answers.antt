@@ -6,6 +6,9 @@ use Rattle.quick.proofs.days.name_date.Goals as goal
 pub overflow_add-end : goal.overflow_add-end
 overflow_add-end c = let h = name_within _ c.in_ok-month.ensures in search rules
 
+pub overflow_add-next : goal.overflow_add-next
+overflow_add-next c = let h = short_within _ c.in_ok-day.ensures in search rules
+
 pub bounds-s-at : goal.bounds-s-at
 bounds-s-at c = short_within _ c.in_ok-day.ensures
 
