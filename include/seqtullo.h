@@ -4,7 +4,7 @@
  * Every function takes any arguments and answers by a number: 0, or one of the refusals below. A refusal carries the blank record
  * (eight zeros), or 0 where a length, a moment or another number was wanted, and every byte that was lent reads as before. A record or a
  * base that is lent in is tested first, as seqtullo_new tests its numbers. Nothing is kept between calls, nothing is allocated, and any
- * thread may call.
+ * thread may call with SEQTULLO_STACK bytes of stack left; a thread of 128 KiB has them at its start.
  *
  * A pointer with length 0 may be null; no byte behind it is touched.
  */
@@ -79,6 +79,9 @@ struct seqtullo_written {
 
 /* The longest text of a record. */
 #define SEQTULLO_TEXT 41
+
+/* An upper bound on the stack that a call uses, in bytes: measured by compare/stack, not proved. */
+#define SEQTULLO_STACK 114688
 
 /* Reads a text under a base: what the text leaves out is the base's. */
 struct seqtullo_answer seqtullo_read_text(const uint8_t *text, size_t text_length, struct seqtullo_record base);

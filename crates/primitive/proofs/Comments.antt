@@ -1,18 +1,20 @@
 -- The laws of `comment`, for a reader that calls itself on the inner comment: inside a comment, an inner one is read as a comment
 -- of its own, and the reading goes on behind it (`inside_open`). Assumes nothing.
-use borrow.Author.Tests.{eq-eqb, ne_eqb}
+use borrow.Author.Tests.{leb-true, leb-false, ne_eqb}
 use native.Mathlib.Omega.{arith}
 use Prim.Native.Nat.{ℕ, zero, suc, ◌+◌, ◌<◌, ◌≤◌}
 use mathlib.Core.Path.{◌≡◌, refl, sym, ap, ◌∙◌}
-use mathlib.Core.List.{List, [], ◌∷◌, ◌++◌, append_assoc}
+use mathlib.Core.List.{List, [], ◌∷◌, ◌++◌, append_assoc, map}
 use mathlib.Core.Bool.{Bool, true, false}
-use lib.ListN.{length, get_or, drop, length-drop, length-append}
-use lib.Seq.{drop-drop}
-use lib.Dec.{eqb}
+use lib.ListN.{length, get_or, drop, length-drop, length-append, get_or-append}
+use lib.Seq.{drop-drop, drop-append-le}
+use Rattle.std.proofs.lemmas.List.{map-append}
+use lib.Dec.{eqb, leb}
 use Rattle.primitive.specs.Answer.{Answer, matched, none, if, and_then}
 use Rattle.primitive.specs.Text.{lower, lowered, starts, tag}
 use Rattle.primitive.specs.Primitive.{closing, inside, comment, Nested, empty, other, inner}
-use Rattle.primitive.proofs.Lowered.{rest_cons, rest_none}
+use Rattle.primitive.proofs.Lowered.{rest_cons, rest_none, length_lowered}
+use Rattle.primitive.proofs.Tags.{lowers_alone}
 use Rattle.primitive.proofs.Chain.{then_matched, then_none}
 
 -- e + d + 1, by steps that compute
@@ -28,29 +30,41 @@ module _ (text : List ℕ) where
   onward : ℕ → Unit {0} → ℕ → Answer (Unit {0})
   onward d v n = closing d (drop n text) n
 
-  -- inside e + d + 1 comments: first out of e + 1, then out of d + 1
-  closing_deeper : (d e : ℕ) (bs : List ℕ) (k : ℕ) → drop k text ≡ bs → closing (deeper e d) bs k ≡ and_then (closing e bs k) (onward d)
-  unfolding closing deeper onward
-  closing_deeper d e [] k h = refl
-  closing_deeper d zero (b ∷ bs) k h =
-      go (eqb b 41) (eqb b 40) (tail_of k b bs h) (closing_deeper d 1 bs (k + 1)) (closing_deeper d 0 bs (k + 1))
+  -- with a comment open in another, one byte closes nothing
+  one_left : (d c k : ℕ) → closing (suc d) (c ∷ []) k ≡ none
+  unfolding closing
+  one_left d c k = go (eqb c 41) (eqb c 40)
     where
-      go : (t u : Bool) → drop (k + 1) text ≡ bs
-          → (drop (k + 1) text ≡ bs → closing (suc (suc d)) bs (k + 1) ≡ and_then (closing 1 bs (k + 1)) (onward d))
-          → (drop (k + 1) text ≡ bs → closing (suc d) bs (k + 1) ≡ and_then (closing 0 bs (k + 1)) (onward d))
-          → if t (closing d bs (k + 1)) (if u (closing (suc (suc d)) bs (k + 1)) (closing (suc d) bs (k + 1)))
+      go : (t u : Bool) → if t (closing d [] (k + 1)) (if u (closing (suc (suc d)) [] (k + 1)) (closing (suc d) [] (k + 1))) ≡ none
+      go true u = refl
+      go false true = refl
+      go false false = refl
+
+  -- inside e + d + 1 comments: first out of e + 1, for which all bytes but the last are enough, then out of d + 1
+  closing_deeper : (c d e : ℕ) (bs : List ℕ) (k : ℕ) → drop k text ≡ bs ++ (c ∷ [])
+      → closing (deeper e d) (bs ++ (c ∷ [])) k ≡ and_then (closing e bs k) (onward d)
+  unfolding closing deeper onward
+  closing_deeper c d zero [] k h = one_left d c k
+  closing_deeper c d (suc e) [] k h = one_left (deeper e d) c k
+  closing_deeper c d zero (b ∷ bs) k h =
+      go (eqb b 41) (eqb b 40) (tail_of k b (bs ++ (c ∷ [])) h) (closing_deeper c d 1 bs (k + 1)) (closing_deeper c d 0 bs (k + 1))
+    where
+      go : (t u : Bool) → drop (k + 1) text ≡ bs ++ (c ∷ [])
+          → (drop (k + 1) text ≡ bs ++ (c ∷ []) → closing (suc (suc d)) (bs ++ (c ∷ [])) (k + 1) ≡ and_then (closing 1 bs (k + 1)) (onward d))
+          → (drop (k + 1) text ≡ bs ++ (c ∷ []) → closing (suc d) (bs ++ (c ∷ [])) (k + 1) ≡ and_then (closing 0 bs (k + 1)) (onward d))
+          → if t (closing d (bs ++ (c ∷ [])) (k + 1)) (if u (closing (suc (suc d)) (bs ++ (c ∷ [])) (k + 1)) (closing (suc d) (bs ++ (c ∷ [])) (k + 1)))
           ≡ and_then (if t (matched tt (k + 1)) (if u (closing 1 bs (k + 1)) (closing 0 bs (k + 1)))) (onward d)
       go true u z f g = rw z
       go false true z f g = f z
       go false false z f g = g z
-  closing_deeper d (suc e) (b ∷ bs) k h =
-      go (eqb b 41) (eqb b 40) (tail_of k b bs h) (closing_deeper d (suc (suc e)) bs (k + 1)) (closing_deeper d (suc e) bs (k + 1)) (closing_deeper d e bs (k + 1))
+  closing_deeper c d (suc e) (b ∷ bs) k h =
+      go (eqb b 41) (eqb b 40) (tail_of k b (bs ++ (c ∷ [])) h) (closing_deeper c d (suc (suc e)) bs (k + 1)) (closing_deeper c d (suc e) bs (k + 1)) (closing_deeper c d e bs (k + 1))
     where
-      go : (t u : Bool) → drop (k + 1) text ≡ bs
-          → (drop (k + 1) text ≡ bs → closing (suc (suc (deeper e d))) bs (k + 1) ≡ and_then (closing (suc (suc e)) bs (k + 1)) (onward d))
-          → (drop (k + 1) text ≡ bs → closing (suc (deeper e d)) bs (k + 1) ≡ and_then (closing (suc e) bs (k + 1)) (onward d))
-          → (drop (k + 1) text ≡ bs → closing (deeper e d) bs (k + 1) ≡ and_then (closing e bs (k + 1)) (onward d))
-          → if t (closing (deeper e d) bs (k + 1)) (if u (closing (suc (suc (deeper e d))) bs (k + 1)) (closing (suc (deeper e d)) bs (k + 1)))
+      go : (t u : Bool) → drop (k + 1) text ≡ bs ++ (c ∷ [])
+          → (drop (k + 1) text ≡ bs ++ (c ∷ []) → closing (suc (suc (deeper e d))) (bs ++ (c ∷ [])) (k + 1) ≡ and_then (closing (suc (suc e)) bs (k + 1)) (onward d))
+          → (drop (k + 1) text ≡ bs ++ (c ∷ []) → closing (suc (deeper e d)) (bs ++ (c ∷ [])) (k + 1) ≡ and_then (closing (suc e) bs (k + 1)) (onward d))
+          → (drop (k + 1) text ≡ bs ++ (c ∷ []) → closing (deeper e d) (bs ++ (c ∷ [])) (k + 1) ≡ and_then (closing e bs (k + 1)) (onward d))
+          → if t (closing (deeper e d) (bs ++ (c ∷ [])) (k + 1)) (if u (closing (suc (suc (deeper e d))) (bs ++ (c ∷ [])) (k + 1)) (closing (suc (deeper e d)) (bs ++ (c ∷ [])) (k + 1)))
           ≡ and_then (if t (closing e bs (k + 1)) (if u (closing (suc (suc e)) bs (k + 1)) (closing (suc e) bs (k + 1)))) (onward d)
       go true u z f g i = i z
       go false true z f g i = f z
@@ -85,45 +99,79 @@ inside_within text at n h =
     let l = length-drop at text in
     (z.0, λ k. omega arith)
 
--- what stands at a place inside a comment
+-- ---- the loop of `comment`
+
+-- what stands at a place inside a comment; no byte but a parenthesis is lowered to one
 module _ (s : List ℕ) (i : ℕ) where
   inside_end : length s ≤ i → inside (lowered s) i ≡ none
   unfolding inside closing
   inside_end h = rw (rest_none s i h)
 
-  module _ (h : i < length s) (b : ℕ) (e : b ≡ lower (get_or s i 0)) where
-    inside_close : b ≡ 41 → inside (lowered s) i ≡ matched tt (i + 1)
-    unfolding inside closing
-    inside_close f = rw (rest_cons s i h b e, eq-eqb b 41 f)
+  module _ (h : i < length s) where
+    inside_close : get_or s i 0 ≡ 41 → inside (lowered s) i ≡ matched tt (i + 1)
+    unfolding inside closing lower
+    inside_close e = rw (rest_cons s i h 41 (rw e))
 
-    inside_other : (b ≡ 41 → ⊥) → (b ≡ 40 → ⊥) → inside (lowered s) i ≡ inside (lowered s) (i + 1)
+    inside_other : (get_or s i 0 ≡ 41 → ⊥) → (get_or s i 0 ≡ 40 → ⊥) → inside (lowered s) i ≡ inside (lowered s) (i + 1)
     unfolding inside closing
-    inside_other f g = rw (rest_cons s i h b e, ne_eqb b 41 f, ne_eqb b 40 g)
+    inside_other f g =
+        rw (
+          rest_cons s i h (lower (get_or s i 0)) refl,
+          ← lowers_alone (get_or s i 0) 41 false (omega arith) (sym (ne_eqb (get_or s i 0) 41 f)),
+          ← lowers_alone (get_or s i 0) 40 false (omega arith) (sym (ne_eqb (get_or s i 0) 40 g)),
+        )
 
-    inside_open : b ≡ 40 → inside (lowered s) i ≡ and_then (comment (lowered s) i) (λ v n. inside (lowered s) n)
-    unfolding inside closing comment deeper onward tag starts
-    inside_open f =
-        let z : eqb b 41 ≡ false = rw f in
-        rw (rest_cons s i h b e, z, eq-eqb b 40 f) (closing_deeper (lowered s) 0 0 (drop (i + 1) (lowered s)) (i + 1) refl)
+    -- An inner comment is read in w, the text without its last byte c: the outer one has still to close.
+    module _ (w : List ℕ) (c : ℕ) (e : s ≡ w ++ (c ∷ [])) (f : get_or s i 0 ≡ 40) where
+      size : length s ≡ length w + 1
+      size = rw e (length-append w (c ∷ []))
+
+      rest_split : (j : ℕ) → j ≤ length w → drop j (lowered s) ≡ drop j (lowered w) ++ (lower c ∷ [])
+      unfolding lowered
+      rest_split j k =
+          let l = length_lowered w in
+          rw (e, map-append lower w (c ∷ [])) (drop-append-le j (map lower w) (lower c ∷ []) (omega arith))
+
+      outer_first : drop i (lowered s) ≡ 40 ∷ drop (i + 1) (lowered s)
+      unfolding lower
+      outer_first = rest_cons s i h 40 (rw f)
+
+      inner_first : i < length w → drop i (lowered w) ≡ 40 ∷ drop (i + 1) (lowered w)
+      unfolding lower
+      inner_first k = rest_cons w i k 40 (rw (sym (get_or-append w (c ∷ []) 0 i k) ∙ rw e at f))
+
+      inside_open : inside (lowered s) i ≡ and_then (comment (lowered w) i) (λ v n. inside (lowered s) n)
+      unfolding inside closing comment deeper onward tag starts
+      inside_open = go (leb (length w) i) refl
+        where
+          go : (t : Bool) → leb (length w) i ≡ t → inside (lowered s) i ≡ and_then (comment (lowered w) i) (λ v n. inside (lowered s) n)
+          go true k =
+              let y = leb-true (length w) i k in
+              let z = size in
+              rw (outer_first, rest_none s (i + 1) (omega arith), rest_none w i y)
+          go false k =
+              let y = leb-false (length w) i k in
+              rw (outer_first, inner_first (omega arith), rest_split (i + 1) (omega arith))
+              (closing_deeper (lowered s) (lower c) 0 0 (drop (i + 1) (lowered w)) (i + 1) (rest_split (i + 1) (omega arith)))
 
 -- a loop that looks for the end of the comment whose inside begins at `start`
 module _ (s : List ℕ) (i start : ℕ) (inv : inside (lowered s) i ≡ inside (lowered s) start) where
   pub inside_done : length s ≤ i → none ≡ inside (lowered s) start
   inside_done h = sym (inside_end s i h) ∙ inv
 
-  module _ (h : i < length s) (b : ℕ) (e : b ≡ lower (get_or s i 0)) where
-    pub inside_found : b ≡ 41 → matched tt (i + 1) ≡ inside (lowered s) start
-    inside_found f = sym (inside_close s i h b e f) ∙ inv
+  module _ (h : i < length s) where
+    pub inside_found : get_or s i 0 ≡ 41 → matched tt (i + 1) ≡ inside (lowered s) start
+    inside_found e = sym (inside_close s i h e) ∙ inv
 
-    pub inside_next : (b ≡ 41 → ⊥) → (b ≡ 40 → ⊥) → inside (lowered s) (i + 1) ≡ inside (lowered s) start
-    inside_next f g = sym (inside_other s i h b e f g) ∙ inv
+    pub inside_next : (get_or s i 0 ≡ 41 → ⊥) → (get_or s i 0 ≡ 40 → ⊥) → inside (lowered s) (i + 1) ≡ inside (lowered s) start
+    inside_next f g = sym (inside_other s i h f g) ∙ inv
 
-    module _ (f : b ≡ 40) where
-      pub inside_inner : (n : ℕ) → matched tt n ≡ comment (lowered s) i → inside (lowered s) n ≡ inside (lowered s) start
-      inside_inner n k = then_matched (λ v n. inside (lowered s) n) (comment (lowered s) i) tt n (inside (lowered s) n) (sym k) refl ∙ (sym (inside_open s i h b e f) ∙ inv)
+    module _ (w : List ℕ) (c : ℕ) (e : s ≡ w ++ (c ∷ [])) (f : get_or s i 0 ≡ 40) where
+      pub inside_inner : (n : ℕ) → matched tt n ≡ comment (lowered w) i → inside (lowered s) n ≡ inside (lowered s) start
+      inside_inner n k = then_matched (λ v n. inside (lowered s) n) (comment (lowered w) i) tt n (inside (lowered s) n) (sym k) refl ∙ (sym (inside_open s i h w c e f) ∙ inv)
 
-      pub inside_unclosed : none ≡ comment (lowered s) i → none ≡ inside (lowered s) start
-      inside_unclosed k = then_none (λ v n. inside (lowered s) n) (comment (lowered s) i) (sym k) ∙ (sym (inside_open s i h b e f) ∙ inv)
+      pub inside_unclosed : none ≡ comment (lowered w) i → none ≡ inside (lowered s) start
+      inside_unclosed k = then_none (λ v n. inside (lowered s) n) (comment (lowered w) i) (sym k) ∙ (sym (inside_open s i h w c e f) ∙ inv)
 
 -- ---- a text that is properly nested, between parentheses
 

@@ -12,7 +12,7 @@ use Rattle.primitive.specs.Text.{lower, lowered, blank, digit, past, starts, tag
 use Rattle.primitive.specs.Primitive.{multispace0, inside, comment, no_digit, sign, ignored_hyphen_or_plus, ignored, behind, skip, space}
 use Rattle.primitive.proofs.Lowered.{length_lowered, get_or_lowered, beyond, rest_cons, clash, digit_lower, digit_no_blank, blank_lower, lower_above}
 use Rattle.primitive.proofs.Runs.{past_end, past_here, past_more}
-use Rattle.primitive.proofs.Comments.{inside_within, inside_done, inside_found, inside_next, inside_inner, inside_unclosed}
+use Rattle.primitive.proofs.Comments.{inside_within, inside_done, inside_found, inside_next}
 use Rattle.primitive.proofs.Forward.{tag_ends, then_forward, multispace0_forward, no_digit_forward, past_onward}
 use Rattle.primitive.proofs.Chain.{chain}
 use Rattle.std.specs.Prelude.{Option, Some, None}
@@ -241,7 +241,7 @@ module _ (text : List ℕ) (at n : ℕ) where
   pub comment_later : (start : ℕ) → start < at → matched tt n ≡ comment text at → start < n
   comment_later start h e = let z = comment_behind text at n (sym e) in omega arith
 
-pub comment_less : (s : List ℕ) (i n : ℕ) → i < length s → matched tt n ≡ comment (lowered s) i → length s - n < length s - i
-comment_less s i n h e = let z = comment_behind (lowered s) i n (sym e) in omega arith
+pub comment_less : (s text : List ℕ) (i n : ℕ) → i < length s → matched tt n ≡ comment text i → length s - n < length s - i
+comment_less s text i n h e = let z = comment_behind text i n (sym e) in omega arith
 
-pub ruleset comments = (inside_done, inside_found, inside_next, inside_inner, inside_unclosed, byte_later, comment_later, comment_less, chain)
+pub ruleset comments = (inside_done, inside_found, inside_next, comment_less, chain)

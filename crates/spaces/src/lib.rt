@@ -98,24 +98,21 @@ fn ignored_hyphen_or_plus(s: &[u8], at: usize) -> Option<usize>
     Some(end)
 }
 
-// A comment stands between parentheses and may hold comments; one that is not closed is no comment.
+// A comment is between parentheses and may contain comments; one that is not closed is no comment. An inner comment is read in all bytes but
+// the last, since the outer one has still to close: so at most half of the bytes open comments in one another, and each takes one call.
 #[tactic(auto, using(primitive::proofs::Spaces::comments), unfolding(primitive::specs::Primitive::comment))]
 fn comment(s: &[u8], at: usize) -> Option<usize>
     ensures { place_answer result ≡ comment (lowered s.now) at }
 {
     let start = primitive::byte(s, at, 40)?;
+    let (_, all_but_last) = s.split_last()?;
     let mut i = start;
     // a step over an inner comment is as long as that comment, so `for` doesn't fit
     while i < s.len() {
-        let b = primitive::to_lower(s[i]);
-        if b == 41 {
-            return Some(i + 1);
-        }
-        let is_open = b == 40;
-        if is_open {
-            i = comment(s, i)?;
-        } else {
-            i += 1;
+        match s[i] {
+            40 => i = comment(all_but_last, i)?,
+            41 => return Some(i + 1),
+            _ => i += 1,
         }
     }
     None

@@ -35,6 +35,17 @@ pub use packet::{Clock, Day, PacketBuilder, Unit, Zone};
 use std::error::Error;
 use std::fmt;
 
+/// An upper bound on the stack that a call uses, in bytes. A thread of 128 KiB has it at its start.
+///
+/// ```
+/// let base = seqtullo::Record::new(2024, 3, 13, 9, 30, 0, 0, 0)?;
+/// let read = move || seqtullo::read_text("(".repeat(2045) + &")".repeat(2045) + "10:00", base);
+/// let thread = std::thread::Builder::new().stack_size(128 * 1024).spawn(read).unwrap();
+/// assert_eq!(thread.join().unwrap()?.hour, 10);
+/// # Ok::<(), seqtullo::Refusal>(())
+/// ```
+pub const STACK: usize = 114_688;
+
 /// A date and time at an offset, in seconds east of UTC. Its numbers may be any: every function tests them first.
 #[repr(C)]
 #[derive(Debug, Clone, Copy, PartialEq, Eq, Hash)]
