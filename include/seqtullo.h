@@ -4,7 +4,8 @@
  * Every function takes any arguments and answers by a number: 0, or one of the refusals below. A refusal carries the blank record
  * (eight zeros), or 0 where a length, a moment or another number was wanted, and every byte that was lent reads as before. A record or a
  * base that is lent in is tested first, as seqtullo_new tests its numbers. Nothing is kept between calls, nothing is allocated, and any
- * thread may call with SEQTULLO_STACK bytes of stack left; a thread of 128 KiB has them at its start.
+ * thread may call with SEQTULLO_STACK bytes of stack left; a thread of 128 KiB starts with them unless its thread-local variables
+ * take more than a few KiB.
  *
  * A pointer with length 0 may be null; no byte behind it is touched.
  */

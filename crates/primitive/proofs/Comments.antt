@@ -1,5 +1,6 @@
--- The laws of `comment`, for a reader that calls itself on the inner comment: inside a comment, an inner one is read as a comment
--- of its own, and the reading goes on behind it (`inside_open`). Assumes nothing.
+-- The laws of `comment`, for a reader that calls itself on the inner comment: inside a comment, an inner one is read as a comment of its own,
+-- in the text without its last byte, and the reading goes on after it (`inside_open`). What is hard is that the last byte is not needed
+-- (`closing_deeper`). Assumes nothing.
 use borrow.Author.Tests.{leb-true, leb-false, ne_eqb}
 use native.Mathlib.Omega.{arith}
 use Prim.Native.Nat.{ℕ, zero, suc, ◌+◌, ◌<◌, ◌≤◌}
@@ -123,8 +124,8 @@ module _ (s : List ℕ) (i : ℕ) where
 
     -- An inner comment is read in w, the text without its last byte c: the outer one has still to close.
     module _ (w : List ℕ) (c : ℕ) (e : s ≡ w ++ (c ∷ [])) (f : get_or s i 0 ≡ 40) where
-      size : length s ≡ length w + 1
-      size = rw e (length-append w (c ∷ []))
+      one_longer : length s ≡ length w + 1
+      one_longer = rw e (length-append w (c ∷ []))
 
       rest_split : (j : ℕ) → j ≤ length w → drop j (lowered s) ≡ drop j (lowered w) ++ (lower c ∷ [])
       unfolding lowered
@@ -147,7 +148,7 @@ module _ (s : List ℕ) (i : ℕ) where
           go : (t : Bool) → leb (length w) i ≡ t → inside (lowered s) i ≡ and_then (comment (lowered w) i) (λ v n. inside (lowered s) n)
           go true k =
               let y = leb-true (length w) i k in
-              let z = size in
+              let z = one_longer in
               rw (outer_first, rest_none s (i + 1) (omega arith), rest_none w i y)
           go false k =
               let y = leb-false (length w) i k in

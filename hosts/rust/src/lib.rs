@@ -35,7 +35,8 @@ pub use packet::{Clock, Day, PacketBuilder, Unit, Zone};
 use std::error::Error;
 use std::fmt;
 
-/// An upper bound on the stack that a call uses, in bytes. A thread of 128 KiB has it at its start.
+/// An upper bound on the stack that a call uses, in bytes: measured, not proved. A thread of 128 KiB starts with it unless its thread-local
+/// variables take more than a few KiB.
 ///
 /// ```
 /// let base = seqtullo::Record::new(2024, 3, 13, 9, 30, 0, 0, 0)?;
