@@ -64,12 +64,21 @@ static double nested(const char *name, size_t total, size_t open)
     return row(name, total / 2 * 2 - open);
 }
 
+/* Zeros after the ninth digit are all looked at. */
+static double zeros(const char *name, size_t total)
+{
+    memset(text, '0', total);
+    memcpy(text, "10:00:00.", 9);
+    return row(name, total);
+}
+
 int main(void)
 {
     static const char *const forms[] = {
         "", "2024-03-13", "20240313", "14 november 2022", "nov 14, 2022", "11/14/2022", "10:00", "3:30 pm", "10:00 +2 hours",
         "2024-01-31 +1 month", "next year", "+1 year -2 months 3 days ago", "2024-03-13 09:30:00.000000000+00:00",
-        "2024-03-13 09:30:00.000000000+00:00 +12345 seconds", "sept. 3", "2024-13-01",
+        "2024-03-13 09:30:00.000000000+00:00 +12345 seconds", "sept. 3", "2024-13-01", "10:00:05.5", "10:00:05,123456789 +05:30",
+        "10:00:05.123456789000", "10:00:05.123456789012", "-1.5 seconds ago",
     };
     static const char *const units[] = {"(", "()", "(x", "-(", "+", "+ ", " ", "0", "9", "a", "1 ", "1:", "(a)+ ", "+()", "1+"};
     double worst = 0;
@@ -86,6 +95,8 @@ int main(void)
         double w = nested("comments in comments", total, 0);
         worst = w > worst ? w : worst;
         w = nested("comments in comments, the first unclosed", total, 1);
+        worst = w > worst ? w : worst;
+        w = zeros("a fraction of zeros", total);
         worst = w > worst ? w : worst;
     }
     double w = repeated("64 items `day`", "day ", 256);

@@ -157,13 +157,39 @@ static struct seqtullo_answer read_twice(int function, struct input in, struct s
 static void well_formed(struct seqtullo_answer a, struct seqtullo_record base)
 {
     static const struct seqtullo_record blank;
-    WANT(a.number <= SEQTULLO_SUM);
+    WANT(a.number <= SEQTULLO_SUM || a.number == SEQTULLO_FRACTION);
     WANT(a.number == 0 || same(a.record, blank));
-    WANT((a.number >= 2 && a.number <= 8) || a.place == 0);
+    WANT((a.number >= 2 && a.number <= 8) || a.number == SEQTULLO_FRACTION || a.place == 0);
     if (test(base) != 0)
         WANT(a.number == test(base));
     if (a.number == 0)
         accepted(a.record);
+}
+
+/* Makes 0 of every digit that stands after nine others after a point or comma, and says whether one was not 0. */
+static int clear(uint8_t *text, size_t length)
+{
+    int found = 0;
+    for (size_t i = 0; i < length; i++) {
+        if (text[i] != '.' && text[i] != ',')
+            continue;
+        for (size_t j = i + 1; j < length && text[j] >= '0' && text[j] <= '9'; j++)
+            if (j > i + 9 && text[j] != '0') {
+                text[j] = '0';
+                found = 1;
+            }
+    }
+    return found;
+}
+
+/* A text is refused for its fraction only if there is one that loses a digit, and never once it loses none. */
+static void one_fraction(struct input in, struct seqtullo_record base, struct seqtullo_answer a)
+{
+    memcpy(front, in.bytes, in.length);
+    if (a.number == SEQTULLO_FRACTION)
+        WANT(clear(front + a.place, in.length - a.place));
+    clear(front, in.length);
+    WANT(seqtullo_read_text(front, in.length, base).number != SEQTULLO_FRACTION);
 }
 
 static void one_text(struct input in, struct seqtullo_record base)
@@ -180,20 +206,21 @@ static void one_text(struct input in, struct seqtullo_record base)
         WANT(a.number == SEQTULLO_FOREIGN && a.place == foreign);
     else
         WANT(a.number != SEQTULLO_FOREIGN);
-    if (a.number == SEQTULLO_UNREAD || a.number == SEQTULLO_STOPPED)
-        WANT(a.place <= in.length);
+    /* Reading ended before the end of the text. */
+    int halted = a.number == SEQTULLO_UNREAD || a.number == SEQTULLO_STOPPED || a.number == SEQTULLO_FRACTION;
+    WANT(!halted || a.place < in.length);
     if (a.number >= 5 && a.number <= 8)
         WANT(a.place < MOST_ITEMS);
+    one_fraction(in, base, a);
     /* How far the reader came and before which byte, or what it read. */
-    int halted = a.number == SEQTULLO_UNREAD || a.number == SEQTULLO_STOPPED;
-    note(TEXT, a.number, a.place, halted && a.place < in.length ? in.bytes[a.place] % 32 : of_record(a.record));
+    note(TEXT, a.number, a.place, halted ? in.bytes[a.place] % 32 : of_record(a.record));
 }
 
 static void one_packet(struct input in, struct seqtullo_record base)
 {
     struct seqtullo_answer a = read_twice(PACKET, in, base);
     well_formed(a, base);
-    WANT(a.number < 2 || a.number > 4);
+    WANT((a.number < 2 || a.number > 4) && a.number != SEQTULLO_FRACTION);
     WANT(a.place <= MOST_ITEMS);
     if (test(base) == 0 && in.length < 8)
         WANT(a.number == 5 && a.place == 0);

@@ -40,7 +40,9 @@ enum {
     SEQTULLO_OFFSET = 17,     /* beyond 86400 seconds either way */
     SEQTULLO_SUM = 18,        /* a sum or product that leaves an i64, nanoseconds that leave a u32, or weeks to a weekday that leave an i32 */
     SEQTULLO_SHORT = 19,      /* the place to write to is shorter than the text */
-    SEQTULLO_SEAM = 20        /* the offset is not whole minutes, on writing */
+    SEQTULLO_SEAM = 20,       /* the offset is not whole minutes, on writing */
+    /* no answer has number 21 */
+    SEQTULLO_FRACTION = 22    /* the fraction of a text's item has a digit other than 0 after the ninth; place: where the item before ended */
 };
 
 /* A date and time at an offset, in seconds east of UTC. */
@@ -55,7 +57,7 @@ struct seqtullo_record {
     int32_t offset_seconds;
 };
 
-/* A record under number 0, or a refusal, its place and the blank record. The place is 0 but for 2 to 8. */
+/* A record under number 0, or a refusal, its place and the blank record. The place is 0 but for 2 to 8 and 22. */
 struct seqtullo_answer {
     uint32_t number;
     uint32_t place;
@@ -84,7 +86,8 @@ struct seqtullo_written {
 /* An upper bound on the stack that a call uses, in bytes: measured by compare/stack, not proved. */
 #define SEQTULLO_STACK 114688
 
-/* Reads a text under a base: what the text leaves out is the base's. */
+/* Reads a text under a base: what the text leaves out is the base's. A fraction of a second may have any number of digits, but those after
+   the ninth must be 0. */
 struct seqtullo_answer seqtullo_read_text(const uint8_t *text, size_t text_length, struct seqtullo_record base);
 
 /* Reads a packet under a base: items that arrive already split, little-endian. Header: item count, place of the items (8), digit count, place

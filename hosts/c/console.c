@@ -13,15 +13,15 @@ static const char *word(uint32_t number)
 {
     static const char *const words[] = {
         "accepted", "oversize", "foreign", "unread", "stopped", "packet", "twice", "rival", "pure", "over", "under",
-        "month", "day", "hour", "minute", "second", "nanosecond", "offset", "sum", "short", "seam",
+        "month", "day", "hour", "minute", "second", "nanosecond", "offset", "sum", "short", "seam", [SEQTULLO_FRACTION] = "fraction",
     };
-    return number < sizeof words / sizeof *words ? words[number] : "?";
+    return number < sizeof words / sizeof *words && words[number] ? words[number] : "?";
 }
 
 static void show_refusal(const char *text, struct seqtullo_answer a)
 {
     printf("refused: %" PRIu32 " (%s)\n", a.number, word(a.number));
-    if (a.number < SEQTULLO_FOREIGN || a.number > SEQTULLO_STOPPED)
+    if ((a.number < SEQTULLO_FOREIGN || a.number > SEQTULLO_STOPPED) && a.number != SEQTULLO_FRACTION)
         return;
     printf("  %s\n  %*s^\n", text, (int)a.place, "");
 }

@@ -1,32 +1,32 @@
 // Seconds with a fraction, as in items/epoch.rs: whole seconds, then a point or comma with one digit or more behind it. The first
-// nine digits count, as nanoseconds. A point without a digit is left unread.
+// nine digits count, as nanoseconds, and each reader says whether one of the others is not zero. A point without a digit is left unread.
 
 #![tactic(auto)]
 
 ghost use Rattle.std.specs.Prelude.{◌≡◌, length};
 ghost use Rattle.primitive.specs.Text.{lowered, digit, run};
-ghost use Rattle.primitive.specs.Answer.{answer_of, place_answer};
-ghost use Rattle.primitive.specs.Epoch.{point_or_comma, nanoseconds, fraction, sec_and_nsec};
+ghost use Rattle.primitive.specs.Answer.{place_answer, lossy_answer};
+ghost use Rattle.primitive.specs.Epoch.{point_or_comma, nanoseconds, lost, fraction, sec_and_nsec};
 
 use primitive::SecAndNsec;
 
 #[tactic(auto, unfolding(primitive::specs::Epoch::sec_and_nsec))]
-pub fn sec_and_nsec(s: &[u8], at: usize) -> Option<(SecAndNsec<u64>, usize)>
-    ensures { answer_of result ≡ sec_and_nsec (lowered s.now) at }
+pub fn sec_and_nsec(s: &[u8], at: usize) -> Option<(SecAndNsec<u64>, usize, bool)>
+    ensures { lossy_answer result ≡ sec_and_nsec (lowered s.now) at }
 {
     let (sec, at) = numbers::dec_u64(s, at)?;
-    let (nsec, next) = fraction(s, at).unwrap_or((0, at));
-    Some((SecAndNsec { sec, nsec }, next))
+    let (nsec, next, dropped) = fraction(s, at).unwrap_or((0, at, false));
+    Some((SecAndNsec { sec, nsec }, next, dropped))
 }
 
-// A point or comma and the digits behind it, as nanoseconds.
+// A point or comma and the digits after it, as nanoseconds.
 #[tactic(auto, using(primitive::proofs::Fractions::fractions), unfolding(primitive::specs::Epoch::fraction))]
-pub fn fraction(s: &[u8], at: usize) -> Option<(u32, usize)>
-    ensures { answer_of result ≡ fraction (lowered s.now) at }
+pub fn fraction(s: &[u8], at: usize) -> Option<(u32, usize, bool)>
+    ensures { lossy_answer result ≡ fraction (lowered s.now) at }
 {
     let start = point_or_comma(s, at)?;
     let (digits, end) = primitive::dec_uint_str(s, start)?;
-    Some((nanoseconds(digits), end))
+    Some((nanoseconds(digits), end, lost(digits)))
 }
 
 #[tactic(auto, unfolding(primitive::specs::Epoch::point_or_comma))]
@@ -52,4 +52,17 @@ fn nanoseconds(digits: &[u8]) -> u32
         }
     }
     acc
+}
+
+// Whether a digit after the ninth is not zero.
+#[tactic(auto, using(primitive::proofs::Fractions::losing))]
+fn lost(digits: &[u8]) -> bool
+    ensures { result ≡ lost (lowered digits.now) }
+{
+    for i in 9..digits.len() {
+        if digits[i] != 48 {
+            return true;
+        }
+    }
+    false
 }

@@ -28,6 +28,7 @@ code refusal.Offset = 17
 code refusal.Sum = 18
 code refusal.Short = 19
 code refusal.Seam = 20
+code refusal.Fraction = 22
 
 abbrev pub outcome_of : {A : Type 0} → Result A Refusal → Outcome A
 outcome_of (Ok a) = accepted a

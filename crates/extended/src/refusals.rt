@@ -24,6 +24,7 @@ pub enum Refusal {
     Sum = 18,
     Short = 19,
     Seam = 20,
+    Fraction = 22,
 }
 
 impl From<Refusal> for u32 {

@@ -14,7 +14,7 @@ use Rattle.extended.specs.Calendar.{leap, month_days}
 use Rattle.extended.specs.Extended.{last_year}
 use Rattle.primitive.specs.Text.{bytes, blank, digit, letter}
 use Rattle.primitive.specs.Primitive.{decimal, same}
-use Rattle.primitive.specs.Epoch.{padded, nanoseconds}
+use Rattle.primitive.specs.Epoch.{padded, nanoseconds, nonzero, lost}
 use Rattle.primitive.specs.Ordinal.{signed, ordinals}
 use Rattle.dates.specs.Year.{widened_by, widened}
 use Rattle.dates.specs.Date.{date_of, exists, months}
@@ -118,10 +118,10 @@ abbrev clock : Option Offset → Item
 clock o = item.Time (record { hour = 20; minute = 2; second = 0; nanosecond = 0; offset = o })
 
 whole_time : Whole (bytes "20:02:00.000000") (clock None)
-unfolding bytes digit decimal nanoseconds padded blank
+unfolding bytes digit decimal nanoseconds padded nonzero lost blank
 whole_time =
     time_24 [] refl (row (bytes "20") refl) (row (bytes "02") refl) (omega arith) (omega arith) refl
-    (second_read refl (fractional_read false (row (bytes "00") refl) (omega arith) (row (bytes "000000") refl) refl) (omega arith)) (no_correction (no_sign_correction (still (plain refl)) refl refl))
+    (second_read refl (fractional_read false (row (bytes "00") refl) (omega arith) (row (bytes "000000") refl) refl refl) (omega arith)) (no_correction (no_sign_correction (still (plain refl)) refl refl))
     (λ z. meridiem_else (still (plain refl)) refl refl)
 
 short_time : Whole (bytes "20:02") (clock None)
@@ -173,9 +173,9 @@ year_ago =
     number_and_unit (other_word (bytes "year") refl) (ago_read (bytes " ") refl) refl (bytes " ") refl [] refl (year_word false) (row (bytes "1") refl) (omega arith) (λ z. short_no_date (bytes "1") (omega arith)) tt
 
 half_second_back : Whole (bytes "-0.5 sec") (item.Relative (Seconds (negsuc 0) 500000000))
-unfolding bytes digit letter decimal nanoseconds padded rounded signed blank tested lacks months same
+unfolding bytes digit letter decimal nanoseconds padded nonzero lost rounded signed blank tested lacks months same
 half_second_back =
-    signed_fractional_seconds (sec_unit false) (other_word (bytes "sec") refl) (no_direction (still (plain refl)) refl refl) refl (bytes " ") refl [] refl (row (bytes "0") refl) (omega arith) false (row (bytes "5") refl) true
+    signed_fractional_seconds (sec_unit false) (other_word (bytes "sec") refl) (no_direction (still (plain refl)) refl refl) refl (bytes " ") refl [] refl (row (bytes "0") refl) (omega arith) false (row (bytes "5") refl) refl true
 
 next_week : Whole (bytes "next week") (item.Relative (Days (pos 7)))
 unfolding bytes letter blank tested lacks months same ordinals

@@ -3,7 +3,7 @@ use Prim.Native.Nat.{ℕ, ◌-◌, ◌≤◌}
 use mathlib.Core.Path.{◌≡◌}
 use mathlib.Core.List.{List}
 use lib.ListN.{length, drop}
-use Rattle.primitive.specs.Answer.{Answer, Reader, matched, none, stop, pure}
+use Rattle.primitive.specs.Answer.{Answer, Reader, matched, dropped, none, stop, pure}
 use Rattle.primitive.specs.Primitive.{space}
 use Rattle.primitive.proofs.Forward.{Ends, Forward, none_ends, then_forward, next_forward, or_forward, pure_forward, tag_forward, spaced_forward, space_onward}
 use Rattle.items.specs.declared.Item.{Item}
@@ -22,6 +22,7 @@ attempt_forward {A = A} p h text at = go (p text at) (h text at)
   where
     go : (a : Answer A) → Ends text at a → Ends text at (unstopped a)
     go (matched v n) e = e
+    go (dropped v n) e = e
     go none e = e
     go stop e = none_ends text at
 

@@ -6,17 +6,17 @@ use native.Mathlib.Nat.{add-zero}
 use mathlib.Core.Path.{◌≡◌, refl, sym, ap, ◌∙◌}
 use mathlib.Core.List.{List, [], ◌∷◌, ◌++◌}
 use mathlib.Core.Bool.{Bool, true, false, ◌&&◌, ◌||◌, not}
-use lib.ListN.{length, get_or, drop, length-drop}
+use lib.ListN.{length, get_or, drop, length-drop, drop_of_length-le}
 use lib.Seq.{get_or-drop, drop-drop, drop-append_seam, take-append_seam}
 use lib.Dec.{leb, eqb}
 use borrow.Author.Tests.{eqb-true, lt-ltb, le-ltb, le-leb, lt-leb, eq-eqb, ne_eqb, leb-true, not-true}
-use Rattle.primitive.specs.Answer.{matched, none, ◌>>◌, pure}
+use Rattle.primitive.specs.Answer.{matched, none, ◌>>◌, pure, cut}
 use Rattle.primitive.specs.Text.{blank, digit, letter, run, past, some, starts, tag}
 use Rattle.primitive.specs.Primitive.{multispace0, comment, no_digit, sign, ignored_hyphen_or_plus, ignored, skip, space, decimal, parse_uint, dec_uint_str, dec_uint, colon, plus_or_minus, alpha1}
-use Rattle.primitive.specs.Epoch.{nanoseconds, point_or_comma, fraction, sec_and_nsec}
+use Rattle.primitive.specs.Epoch.{nanoseconds, nonzero, lost, point_or_comma, fraction, sec_and_nsec}
 use Rattle.primitive.proofs.Limits.{slice_take}
 use Rattle.primitive.proofs.Rows.{all, halves, Number}
-use Rattle.forms.proofs.Walk.{Reads, Fails, Spaces, ◌⟨◌⟩◌, ◌⟨◌⟩!◌, at_once, first, ◌or◌, ◌nor◌, nothing, verified, behind_space, not_behind_space}
+use Rattle.forms.proofs.Walk.{Reads, Fails, Spaces, ◌⟨◌⟩◌, ◌⟨◌⟩!◌, at_once, first, ◌or◌, ◌nor◌, nothing, verified, uncut, behind_space, not_behind_space}
 
 -- the first byte, and 0 at the end
 abbrev pub head : List ℕ → ℕ
@@ -61,7 +61,7 @@ pub blanks_head : (p : ℕ → Bool) → ((b : ℕ) → blank b ≡ true → p b
 blanks_head p f [] l a h = h
 blanks_head p f (b ∷ bs) l a h = f b (halves (blank b) (all blank bs) a).0
 
-head_at : (text : List ℕ) (at : ℕ) (l : List ℕ) → drop at text ≡ l → get_or text at 0 ≡ head l
+pub head_at : (text : List ℕ) (at : ℕ) (l : List ℕ) → drop at text ≡ l → get_or text at 0 ≡ head l
 head_at text at l e = rw (← add-zero at, ← get_or-drop at text 0 0, e) (go l)
   where
     go : (k : List ℕ) → get_or k 0 0 ≡ head k
@@ -318,10 +318,15 @@ unfolding point_or_comma
 point_read true = byte_else 46 refl or byte_read 44
 point_read false = first _ (byte_read 46)
 
--- seconds with a fraction, and without one
-pub fraction_read : (comma : Bool) {fs rest : List ℕ} → Number fs → digit (head rest) ≡ false → Reads fraction (point_of comma ∷ (fs ++ rest)) (nanoseconds fs) rest
+-- nine digits lose none, nor do zeros after them
+pub nine_lose_none : (fs : List ℕ) → length fs ≤ 9 → lost fs ≡ false
+unfolding lost nonzero
+nine_lose_none fs h = rw (drop_of_length-le fs h) refl
+
+-- seconds with a fraction that loses no digit, and without one
+pub fraction_read : (comma : Bool) {fs rest : List ℕ} → Number fs → lost fs ≡ false → digit (head rest) ≡ false → Reads fraction (point_of comma ∷ (fs ++ rest)) (nanoseconds fs) rest
 unfolding fraction
-fraction_read comma n h = point_read comma ⟨ _ ⟩ str_read n h ⟨ (λ ds. pure (nanoseconds ds)) ⟩ nothing
+fraction_read comma n k h = point_read comma ⟨ _ ⟩ str_read n h ⟨ (λ ds. cut (lost ds) (nanoseconds ds)) ⟩ uncut k
 
 pub fraction_else : {l : List ℕ} → eqb (head l) 46 ≡ false → eqb (head l) 44 ≡ false → Fails fraction l
 unfolding fraction point_or_comma
@@ -336,9 +341,9 @@ unfolding digit
 point_no_digit true = refl
 point_no_digit false = refl
 
-pub fractional_read : (comma : Bool) {ds fs rest : List ℕ} → Number ds → decimal ds ≤ 18446744073709551615 → Number fs → digit (head rest) ≡ false → Reads sec_and_nsec (ds ++ (point_of comma ∷ (fs ++ rest))) (record { sec = decimal ds; nsec = nanoseconds fs }) rest
+pub fractional_read : (comma : Bool) {ds fs rest : List ℕ} → Number ds → decimal ds ≤ 18446744073709551615 → Number fs → lost fs ≡ false → digit (head rest) ≡ false → Reads sec_and_nsec (ds ++ (point_of comma ∷ (fs ++ rest))) (record { sec = decimal ds; nsec = nanoseconds fs }) rest
 unfolding sec_and_nsec
-fractional_read comma {ds} n m f h = number_read n m (point_no_digit comma) ⟨ _ ⟩ first _ (fraction_read comma f h) ⟨ (λ nsec. pure (record { sec = decimal ds; nsec = nsec })) ⟩ nothing
+fractional_read comma {ds} n m f k h = number_read n m (point_no_digit comma) ⟨ _ ⟩ first _ (fraction_read comma f k h) ⟨ (λ nsec. pure (record { sec = decimal ds; nsec = nsec })) ⟩ nothing
 
 pub seconds_else : {l : List ℕ} → digit (head l) ≡ false → Fails sec_and_nsec l
 unfolding sec_and_nsec

@@ -1,4 +1,4 @@
--- The laws of the crate `forms`: how a reader goes along a text, where a match ends, and the written forms.
+-- The laws of the crate `forms`: how a reader goes along a text, where a match ends, the written forms, and which items lose a digit.
 pub mod Walk
 pub mod Leaves
 pub mod Tables
@@ -19,3 +19,11 @@ pub mod DatesForward
 pub mod RelativeForward
 pub mod TimesForward
 pub mod ItemsForward
+pub mod Undropped
+pub mod WholeReaders
+pub mod Fractions
+pub mod TimesFractions
+pub mod RelativeFractions
+pub mod Losses
+pub mod DroppedItems
+pub mod LossExamples

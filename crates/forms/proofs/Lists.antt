@@ -12,7 +12,7 @@ use Rattle.forms.proofs.Walk.{Reads, Spaces}
 
 -- Where the text goes on as l, behind the items xs and with room for k more, it has the items ys in all, and nothing is left.
 pub record Lists (k : ℕ) (xs : List Item) (l : List ℕ) (ys : List Item) : Type 0 where
-  pub lists : (text : List ℕ) (at : ℕ) → drop at text ≡ l → items_from k xs text at ≡ ended ys 0 0
+  pub lists : (text : List ℕ) (at : ℕ) → drop at text ≡ l → items_from parse_item k xs text at ≡ ended ys 0 0
 
 module _ (text : List ℕ) (i : ℕ) where
   outside : drop i text ≡ [] → length text ≤ i
@@ -25,7 +25,7 @@ pub no_more_items : {k : ℕ} {xs : List Item} {l : List ℕ} → Spaces l [] �
 unfolding items_from
 no_more_items {k} {xs} s = record { lists = λ text at e. go k text at (outside text (space text at) (s.spaces text at e)) }
   where
-    go : (k : ℕ) (text : List ℕ) (at : ℕ) → length text ≤ space text at → items_from k xs text at ≡ ended xs 0 0
+    go : (k : ℕ) (text : List ℕ) (at : ℕ) → length text ≤ space text at → items_from parse_item k xs text at ≡ ended xs 0 0
     go zero text at h = rw (le-ltb (space text at) (length text) h)
     go (suc k) text at h = rw (le-ltb (space text at) (length text) h)
 

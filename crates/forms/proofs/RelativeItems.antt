@@ -13,7 +13,7 @@ use lib.IntN.{ℤ, pos}
 use Rattle.primitive.specs.Answer.{Reader, if}
 use Rattle.primitive.specs.Text.{bytes, blank, digit, letter}
 use Rattle.primitive.specs.Primitive.{spaced, decimal, same, named}
-use Rattle.primitive.specs.Epoch.{nanoseconds, sec_and_nsec}
+use Rattle.primitive.specs.Epoch.{nanoseconds, lost, sec_and_nsec}
 use Rattle.primitive.specs.Ordinal.{signed, ordinals}
 use Rattle.dates.specs.Date.{literal_month, months, dotted, parse_non_iso}
 use Rattle.times.specs.Time.{meridiem}
@@ -188,9 +188,9 @@ module _ {w : List ℕ} (t : (m : List ℕ) → Reads (named second_words w) m t
   pub signed_seconds : (negative : Bool) → Reads parse_item (as' ++ (sign_of negative ∷ (ds ++ (bs ++ (w ++ l))))) (item.Relative (rounded (if ago (not negative) negative) (record { sec = decimal ds; nsec = 0 }))) rest
   signed_seconds negative = signed_item as' a negative _ (number_head _ n) (signed_seconds_item the_word d bs b t as' a negative (number_head _ n) whole small)
 
-  module _ (comma : Bool) {fs : List ℕ} (f : Number fs) where
+  module _ (comma : Bool) {fs : List ℕ} (f : Number fs) (kept : lost fs ≡ false) where
     parts : Reads sec_and_nsec (ds ++ (point_of comma ∷ (fs ++ (bs ++ (w ++ l))))) (record { sec = decimal ds; nsec = nanoseconds fs }) (bs ++ (w ++ l))
-    parts = fractional_read comma n (omega arith) f (gap_no_digit bs b l p ends)
+    parts = fractional_read comma n (omega arith) f kept (gap_no_digit bs b l p ends)
 
     pub fractional_seconds : (as' ≡ [] → glued ds ≡ false) → Reads parse_item (as' ++ (ds ++ (point_of comma ∷ (fs ++ (bs ++ (w ++ l)))))) (item.Relative (rounded (if ago true false) (record { sec = decimal ds; nsec = nanoseconds fs }))) rest
     fractional_seconds k = fraction_item bs b l p ends as' a n k f comma (unsigned_seconds the_word d bs b t as' a (number_head _ n) parts small)

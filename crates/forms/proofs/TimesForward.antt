@@ -4,7 +4,7 @@ use Prim.Native.Nat.{ℕ, ◌+◌, ◌/◌, ◌%◌}
 use mathlib.Core.Bool.{Bool}
 use lib.ListN.{length}
 use lib.Dec.{ltb, leb}
-use Rattle.primitive.specs.Answer.{Answer, Reader, matched, none, stop, if}
+use Rattle.primitive.specs.Answer.{Answer, Reader, matched, dropped, none, stop, if}
 use Rattle.primitive.proofs.Forward.{Ends, Forward, none_ends, stop_ends, if_ends, if_forward, then_forward, next_forward, or_forward, pure_forward, verify_forward, optional_forward, value_forward, spaced_forward, tag_forward, colon_forward, plus_or_minus_forward, dec_uint_forward, dec_uint_str_forward, parse_uint_forward, sec_and_nsec_forward}
 use Rattle.times.specs.Offset.{certain, without, unless, in_range, offset_of, timezone_offset_colon, digits_offset, timezone_offset_colonless, any_offset, signed_fraction, time_zone_correction, timezone_offset}
 use Rattle.relative.specs.Relative.{parse as relative}
@@ -20,6 +20,7 @@ unless_forward {A = A} p q h text at = go (p text at)
   where
     go : (a : Answer A) → Ends text at (without a (q text at))
     go (matched v n) = none_ends text at
+    go (dropped v n) = none_ends text at
     go none = h text at
     go stop = h text at
 

@@ -11,7 +11,7 @@ use lib.ListN.{length, length-append}
 use lib.Dec.{leb, eqb}
 use Rattle.primitive.specs.Text.{lower, lowered, bytes, blank, digit, letter}
 use Rattle.primitive.specs.Primitive.{decimal, same}
-use Rattle.primitive.specs.Epoch.{padded, nanoseconds}
+use Rattle.primitive.specs.Epoch.{padded, nanoseconds, lost}
 use Rattle.primitive.specs.Ordinal.{signed}
 use Rattle.dates.specs.Date.{months}
 use Rattle.dates.specs.Year.{widened_by, widened}
@@ -58,6 +58,7 @@ pub record Sound (r : Digits) : Type 0 where
   pub minute : Number r.minute
   pub second : Number r.second
   pub fraction : Number r.fraction
+  pub fraction_kept : lost r.fraction ≡ false
   pub zone_hours : Number r.zone_hours
   pub zone_minutes : Number r.zone_minutes
   pub hour_small : decimal r.hour < 24
@@ -103,7 +104,7 @@ module _ (r : Digits) (a : Sound r) {rest : List ℕ} (d : digit (head rest) ≡
   unfolding digit
   time_read =
       iso_read (still (number_still _ a.hour)) a.hour a.minute a.hour_small a.minute_small refl
-      (second_read (number_head _ a.second) (fractional_read false a.second (omega arith) a.fraction (sign_no_digit r.negative)) a.second_small)
+      (second_read (number_head _ a.second) (fractional_read false a.second (omega arith) a.fraction a.fraction_kept (sign_no_digit r.negative)) a.second_small)
       (correction_given (colon_correction_read r.negative (still (sign-still r.negative (number_head _ a.zone_hours))) a.zone_hours a.zone_minutes d a.zone))
 
   -- The moment is one item, where behind it stands no digit, and behind blanks neither am nor pm.

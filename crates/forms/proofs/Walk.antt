@@ -5,7 +5,7 @@ use mathlib.Core.Path.{◌≡◌, refl, ap}
 use mathlib.Core.List.{List}
 use mathlib.Core.Bool.{Bool, true, false}
 use lib.ListN.{length, drop, length-drop}
-use Rattle.primitive.specs.Answer.{Reader, matched, none, ◌>>=◌, ◌<|>◌, pure, verify}
+use Rattle.primitive.specs.Answer.{Reader, matched, none, ◌>>=◌, ◌<|>◌, pure, verify, cut}
 use Rattle.primitive.specs.Primitive.{space, spaced}
 use Rattle.primitive.proofs.Forward.{Forward}
 
@@ -71,6 +71,9 @@ verified h = record { reads = λ text at e. (at, rw h, e) }
 
 pub not_verified : {A : Type 0} {t : Bool} (v : A) {l : List ℕ} → t ≡ false → Fails (verify t v) l
 not_verified v h = record { fails = λ text at e. rw h }
+
+pub uncut : {A : Type 0} {t : Bool} {v : A} {l : List ℕ} → t ≡ false → Reads (cut t v) l v l
+uncut h = record { reads = λ text at e. (at, rw h refl, e) }
 
 module _ {A : Type 0} {p : Reader A} {l : List ℕ} where
   pub behind_space : {v : A} {m r : List ℕ} → Spaces l m → Reads p m v r → Reads (spaced p) l v r

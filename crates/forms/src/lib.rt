@@ -1,3 +1,4 @@
-// The written forms of the manual, each read as its item, and where a match ends: theorems alone (proofs/), no function.
+// The written forms of the manual, each read as its item, where a match ends, and which items lose a digit: theorems alone (proofs/), no
+// function.
 
 #![tactic(auto)]

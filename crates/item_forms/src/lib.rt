@@ -4,7 +4,7 @@
 
 ghost use Rattle.std.specs.Prelude.{◌≡◌};
 ghost use Rattle.primitive.specs.Text.{lowered};
-ghost use Rattle.primitive.specs.Answer.{answer_of, stop_answer};
+ghost use Rattle.primitive.specs.Answer.{answer_of, lossy_answer, lossy_stop_answer};
 ghost use Rattle.items.specs.Items.{dated_item, iso_date, iso_item, relative_item, time_or_relative, other_item, parse_item};
 
 use dates::date::Date;
@@ -14,8 +14,8 @@ use primitive::Miss;
 // The item at a place. The first byte behind the space says what it can be: below 48, the digit 0, it begins no date and no time, and above
 // 57, the digit 9, no ISO date.
 #[tactic(auto, using(items::proofs::Fronts::fronts))]
-pub fn parse_item(s: &[u8], at: usize) -> Result<(Item, usize), Miss>
-    ensures { stop_answer result ≡ parse_item (lowered s.now) at }
+pub fn parse_item(s: &[u8], at: usize) -> Result<(Item, usize, bool), Miss>
+    ensures { lossy_stop_answer result ≡ parse_item (lowered s.now) at }
 {
     let start = spaces::space(s, at);
     if s.len() <= start {
@@ -32,8 +32,8 @@ pub fn parse_item(s: &[u8], at: usize) -> Result<(Item, usize), Miss>
 
 // The same where it may begin with a number.
 #[tactic(auto, unfolding(items::specs::Items::parse_item))]
-fn number_item(s: &[u8], at: usize) -> Result<(Item, usize), Miss>
-    ensures { stop_answer result ≡ parse_item (lowered s.now) at }
+fn number_item(s: &[u8], at: usize) -> Result<(Item, usize, bool), Miss>
+    ensures { lossy_stop_answer result ≡ parse_item (lowered s.now) at }
 {
     match iso_item(s, at) {
         Err(Miss::NoMatch) => other_item(s, at),
@@ -43,8 +43,8 @@ fn number_item(s: &[u8], at: usize) -> Result<(Item, usize), Miss>
 
 // An ISO date, with a time or alone. The date is read once.
 #[tactic(auto, unfolding(items::specs::Items::iso_item))]
-fn iso_item(s: &[u8], at: usize) -> Result<(Item, usize), Miss>
-    ensures { stop_answer result ≡ iso_item (lowered s.now) at }
+fn iso_item(s: &[u8], at: usize) -> Result<(Item, usize, bool), Miss>
+    ensures { lossy_stop_answer result ≡ iso_item (lowered s.now) at }
 {
     let (date, next) = iso_date(s, at).ok_or(Miss::NoMatch)?;
     dated_item(s, next, date)
@@ -59,41 +59,41 @@ fn iso_date(s: &[u8], at: usize) -> Option<(Date, usize)>
 
 // A date with the time that follows it, or alone.
 #[tactic(auto, unfolding(items::specs::Items::dated_item, items::specs::Items::date_time_item))]
-fn dated_item(s: &[u8], at: usize, date: Date) -> Result<(Item, usize), Miss>
-    ensures { stop_answer result ≡ dated_item date (lowered s.now) at }
+fn dated_item(s: &[u8], at: usize, date: Date) -> Result<(Item, usize, bool), Miss>
+    ensures { lossy_stop_answer result ≡ dated_item date (lowered s.now) at }
 {
     match items::combined::parse_time_after_date(s, at, date) {
-        Ok((both, next)) => Ok((Item::DateTime(both), next)),
-        Err(Miss::NoMatch) => Ok((Item::Date(date), at)),
+        Ok((both, next, dropped)) => Ok((Item::DateTime(both), next, dropped)),
+        Err(Miss::NoMatch) => Ok((Item::Date(date), at, false)),
         Err(Miss::Stop) => Err(Miss::Stop),
     }
 }
 
 #[tactic(auto, unfolding(items::specs::Items::other_item, items::specs::Items::date_item))]
-fn other_item(s: &[u8], at: usize) -> Result<(Item, usize), Miss>
-    ensures { stop_answer result ≡ other_item (lowered s.now) at }
+fn other_item(s: &[u8], at: usize) -> Result<(Item, usize, bool), Miss>
+    ensures { lossy_stop_answer result ≡ other_item (lowered s.now) at }
 {
     match date_forms::parse_non_iso(s, at) {
-        Some((date, next)) => Ok((Item::Date(date), next)),
+        Some((date, next)) => Ok((Item::Date(date), next, false)),
         None => time_or_relative(s, at),
     }
 }
 
 #[tactic(auto, unfolding(items::specs::Items::time_or_relative, items::specs::Items::time_item))]
-fn time_or_relative(s: &[u8], at: usize) -> Result<(Item, usize), Miss>
-    ensures { stop_answer result ≡ time_or_relative (lowered s.now) at }
+fn time_or_relative(s: &[u8], at: usize) -> Result<(Item, usize, bool), Miss>
+    ensures { lossy_stop_answer result ≡ time_or_relative (lowered s.now) at }
 {
     match time_forms::parse(s, at) {
-        Ok((time, next)) => Ok((Item::Time(time), next)),
+        Ok((time, next, dropped)) => Ok((Item::Time(time), next, dropped)),
         Err(Miss::NoMatch) => relative_item(s, at).ok_or(Miss::NoMatch),
         Err(miss) => Err(miss),
     }
 }
 
 #[tactic(auto, unfolding(items::specs::Items::relative_item))]
-fn relative_item(s: &[u8], at: usize) -> Option<(Item, usize)>
-    ensures { answer_of result ≡ relative_item (lowered s.now) at }
+fn relative_item(s: &[u8], at: usize) -> Option<(Item, usize, bool)>
+    ensures { lossy_answer result ≡ relative_item (lowered s.now) at }
 {
-    let (relative, next) = relative_forms::parse(s, at)?;
-    Some((Item::Relative(relative), next))
+    let (relative, next, dropped) = relative_forms::parse(s, at)?;
+    Some((Item::Relative(relative), next, dropped))
 }

@@ -1,6 +1,6 @@
 -- A date and a time in one item, as in items/combined.rs. 29.5: "The ISO 8601 date and time of day extended format consists of an ISO 8601
 -- date, a 'T' character separator, and an ISO 8601 time of day. This format is also recognized if the 'T' is replaced by a space."
-use Rattle.primitive.specs.Answer.{Answer, Reader, matched, none, stop, ◌>>=◌, ◌>>◌, ◌<|>◌, pure}
+use Rattle.primitive.specs.Answer.{Answer, Reader, matched, dropped, none, stop, ◌>>=◌, ◌>>◌, ◌<|>◌, pure}
 use Rattle.primitive.specs.Text.{char, quoted}
 use Rattle.primitive.specs.Primitive.{multispace0, space, spaced}
 use Rattle.times.specs.Offset.{unless}
@@ -12,6 +12,7 @@ use Rattle.items.specs.declared.combined.DateTime.{DateTime}
 -- a reader whose stop is no match
 abbrev pub unstopped : {A : Type 0} → Answer A → Answer A
 unstopped (matched v n) = matched v n
+unstopped (dropped v n) = dropped v n
 unstopped none = none
 unstopped stop = none
 

@@ -1,6 +1,6 @@
 -- The items of a text, as in items/mod.rs. 29.1: "A date is a string, possibly empty, containing many items separated by whitespace."
 use Rattle.std.specs.Prelude.{ℕ, zero, suc, List, [], ◌∷◌, ◌++◌, length, ltb}
-use Rattle.primitive.specs.Answer.{Answer, Reader, matched, none, stop, if, ◌>>=◌, ◌<|>◌, pure}
+use Rattle.primitive.specs.Answer.{Answer, Reader, matched, dropped, none, stop, if, ◌>>=◌, ◌<|>◌, pure}
 use Rattle.primitive.specs.Primitive.{space}
 use Rattle.dates.specs.Date.{iso1, iso2, parse_non_iso}
 use Rattle.dates.specs.declared.date.Date.{Date}
@@ -75,20 +75,36 @@ pub record Parsed : Type 0 where
 abbrev pub ended : List Item → ℕ → ℕ → Parsed
 ended xs number place = record { items = xs; number = number; place = place }
 
--- Document 01: 3 where no reader matches, 4 where one stops, both at the end of the item before.
+-- Document 01: 3 where no reader matches, 4 where one stops; docs/requests/02-long-fractions.md: 22 where an item lost a digit. All three are
+-- at the end of the item before.
 abbrev pub further : Answer Item → List Item → ℕ → (Item → ℕ → Parsed) → Parsed
 further (matched v n) xs at f = f v n
+further (dropped v n) xs at f = ended xs 22 at
 further none xs at f = ended xs 3 at
 further stop xs at f = ended xs 4 at
 
--- Document 01, items/mod.rs: the end of text is tried before each item. Behind the items xs there is room for so many more; 1 where one
--- is read beyond them.
-unfoldable pub items_from : ℕ → List Item → List ℕ → ℕ → Parsed
-items_from zero xs text at =
-    if (ltb (space text at) (length text)) (further (parse_item text at) xs at (λ v n. ended xs 1 0)) (ended xs 0 0)
-items_from (suc room) xs text at =
+-- the Rust's answer: a digit that is lost changes nothing
+abbrev pub kept : {A : Type 0} → Answer A → Answer A
+kept (matched v n) = matched v n
+kept (dropped v n) = matched v n
+kept none = none
+kept stop = stop
+
+-- Document 01, items/mod.rs: the end of text is tried before each item, which p reads. After the items xs there is room for so many more;
+-- 1 where one is read beyond them, whether or not it lost a digit.
+unfoldable pub items_from : Reader Item → ℕ → List Item → List ℕ → ℕ → Parsed
+items_from p zero xs text at =
+    if (ltb (space text at) (length text)) (further (kept (p text at)) xs at (λ v n. ended xs 1 0)) (ended xs 0 0)
+items_from p (suc room) xs text at =
     if (ltb (space text at) (length text))
-    (further (parse_item text at) xs at (λ v n. items_from room (xs ++ (v ∷ [])) text n)) (ended xs 0 0)
+    (further (p text at) xs at (λ v n. items_from p room (xs ++ (v ∷ [])) text n)) (ended xs 0 0)
 
 unfoldable pub parse_items : List ℕ → Parsed
-parse_items text = items_from 64 [] text 0
+parse_items text = items_from parse_item 64 [] text 0
+
+-- the Rust's reading, which gives no 22
+unfoldable pub rust_item : Reader Item
+rust_item text at = kept (parse_item text at)
+
+unfoldable pub rust_items : List ℕ → Parsed
+rust_items text = items_from rust_item 64 [] text 0

@@ -2,7 +2,7 @@
 
 ghost use Rattle.std.specs.Prelude.{◌≡◌};
 ghost use Rattle.primitive.specs.Text.{lowered};
-ghost use Rattle.primitive.specs.Answer.{answer_of, place_answer, stop_answer};
+ghost use Rattle.primitive.specs.Answer.{place_answer, lossy_answer, lossy_stop_answer};
 ghost use Rattle.items.specs.Combined.{attempt, separator, meridiem_word, starts_with_meridiem, iso_alone, combined_time, parse_time_after_date};
 
 use dates::date::Date;
@@ -17,12 +17,16 @@ pub struct DateTime {
 
 // The separator and the time of an item whose ISO date has been read.
 #[tactic(auto, using(crate::proofs::Chain::items), unfolding(crate::specs::Combined::parse_time_after_date))]
-pub fn parse_time_after_date(s: &[u8], at: usize, date: Date) -> Result<(DateTime, usize), Miss>
-    ensures { stop_answer result ≡ parse_time_after_date date (lowered s.now) at }
+pub fn parse_time_after_date(
+    s: &[u8],
+    at: usize,
+    date: Date,
+) -> Result<(DateTime, usize, bool), Miss>
+    ensures { lossy_stop_answer result ≡ parse_time_after_date date (lowered s.now) at }
 {
     let at = separator(s, at).ok_or(Miss::NoMatch)?;
-    let (time, next) = combined_time(s, at)?;
-    Ok((DateTime { date, time }, next))
+    let (time, next, dropped) = combined_time(s, at)?;
+    Ok((DateTime { date, time }, next, dropped))
 }
 
 // A `t` behind space, or a blank and the space behind it.
@@ -39,8 +43,8 @@ fn separator(s: &[u8], at: usize) -> Option<usize>
 
 // An ISO time that no am or pm follows, or else any time.
 #[tactic(auto, using(crate::proofs::Chain::items), unfolding(crate::specs::Combined::combined_time))]
-fn combined_time(s: &[u8], at: usize) -> Result<(Time, usize), Miss>
-    ensures { stop_answer result ≡ combined_time (lowered s.now) at }
+fn combined_time(s: &[u8], at: usize) -> Result<(Time, usize, bool), Miss>
+    ensures { lossy_stop_answer result ≡ combined_time (lowered s.now) at }
 {
     match iso_alone(s, at) {
         Some(read) => Ok(read),
@@ -50,14 +54,14 @@ fn combined_time(s: &[u8], at: usize) -> Result<(Time, usize), Miss>
 
 // An ISO time that no am or pm follows; one that stops is no match.
 #[tactic(auto, using(crate::proofs::Chain::items), unfolding(crate::specs::Combined::iso_alone, crate::specs::Combined::unless_meridiem))]
-fn iso_alone(s: &[u8], at: usize) -> Option<(Time, usize)>
-    ensures { answer_of result ≡ attempt iso_alone (lowered s.now) at }
+fn iso_alone(s: &[u8], at: usize) -> Option<(Time, usize, bool)>
+    ensures { lossy_answer result ≡ attempt iso_alone (lowered s.now) at }
 {
-    let (time, next) = time_forms::iso(s, at).ok()?;
+    let (time, next, dropped) = time_forms::iso(s, at).ok()?;
     if starts_with_meridiem(s, next).is_some() {
         return None;
     }
-    Some((time, next))
+    Some((time, next, dropped))
 }
 
 // am or pm behind blanks.

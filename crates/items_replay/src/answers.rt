@@ -30,9 +30,12 @@ fn items_of(text: &[u8]) -> Result<ArrayVec<Option<Item>, MOST_ITEMS>, PlacedRef
     // a step is as long as the item that was read, so there is no range
     while spaces::space(text, at) < text.len() {
         match item_forms::parse_item(text, at) {
-            Ok((item, next)) => {
+            Ok((item, next, dropped)) => {
                 if items.try_push(Some(item)).is_err() {
                     return Err(Refusal::Oversize.at(0));
+                }
+                if dropped {
+                    return Err(Refusal::Fraction.at(at));
                 }
                 at = next;
             }

@@ -1,5 +1,6 @@
 // Replays texts: reads a list of them from standard input and writes the items of each as one line. The expected lines in `stdout` were
-// derived by hand from the text of the Rust and of the manual, so a reader that departs from them fails the gate.
+// derived by hand from the text of the Rust and of the manual, and 22 from the request for it, so a reader that departs from them fails
+// the gate.
 //
 // A line is a text, a tab, and the reason why it is in the list, which is skipped; a line without a tab is a heading and is written as it is. In
 // a text, `{N}` is the byte of that number and `{N:PART}` is N times PART, which holds no brace. A text that is longer than 4096 bytes is answered by

@@ -16,7 +16,7 @@ use Rattle.primitive.specs.Answer.{if}
 use Rattle.primitive.specs.Text.{lowered}
 use Rattle.primitive.proofs.Lowered.{length_lowered}
 use Rattle.extended.specs.Placed.{Placed, refusal, placed, ◌>>◌}
-use Rattle.reading.specs.Reading.{read_lowered, read_text}
+use Rattle.reading.specs.Reading.{read_parsed, read_text}
 use Rattle.answers.specs.Answers.{line_answer}
 use Rattle.lines_lib.specs.Lines.{in_front, lines, line_length, answers, answered, unlines, wanting, epoch, output_of, output}
 use Rattle.line_ends.proofs.Splitting.{line_inside}
@@ -28,7 +28,7 @@ abbrev too_long : ExtendedDateTime → Placed ExtendedDateTime
 too_long base = placed 0 (test base) >> refusal 1 0
 
 pub long_refused : (text : List ℕ) (base : ExtendedDateTime) → 4096 < length text → read_text text base ≡ too_long base
-unfolding read_text read_lowered
+unfolding read_text read_parsed
 long_refused text base h =
     let l : 4096 < length (lowered text) = rw (length_lowered text) h in
     rw (lt-leb (length (lowered text)) 4096 l)

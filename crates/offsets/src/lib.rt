@@ -8,7 +8,7 @@
 
 ghost use Rattle.std.specs.Prelude.{◌≡◌, []};
 ghost use Rattle.primitive.specs.Text.{lowered};
-ghost use Rattle.primitive.specs.Answer.{answer_of, stop_answer};
+ghost use Rattle.primitive.specs.Answer.{lossy_answer, stop_answer};
 ghost use Rattle.relative.specs.Relative.{parse};
 ghost use Rattle.times.specs.Offset.{without, offset_of, digits_offset, signed_fraction, time_zone_correction, any_offset, timezone_offset, timezone_offset_colon, timezone_offset_colonless};
 
@@ -29,10 +29,10 @@ pub fn time_zone_correction(s: &[u8], at: usize) -> Result<(Offset, usize), Miss
 
 // What was read, or no match where another reader found something.
 fn unless<T: Copy>(
-    found: Option<(T, usize)>,
+    found: Option<(T, usize, bool)>,
     read: Result<(Offset, usize), Miss>,
 ) -> Result<(Offset, usize), Miss>
-    ensures { stop_answer result ≡ without (answer_of found) (stop_answer read) }
+    ensures { stop_answer result ≡ without (lossy_answer found) (stop_answer read) }
 {
     if found.is_some() {
         return Err(Miss::NoMatch);
@@ -42,8 +42,8 @@ fn unless<T: Copy>(
 
 // A number with a sign and a fraction.
 #[tactic(auto, using(times::proofs::Offsets::offsets), unfolding(times::specs::Offset::signed_fraction))]
-fn signed_fraction(s: &[u8], at: usize) -> Option<(u32, usize)>
-    ensures { answer_of result ≡ signed_fraction (lowered s.now) at }
+fn signed_fraction(s: &[u8], at: usize) -> Option<(u32, usize, bool)>
+    ensures { lossy_answer result ≡ signed_fraction (lowered s.now) at }
 {
     let (_, at) = spaces::plus_or_minus(s, at)?;
     let (_, at) = primitive::dec_uint_str(s, spaces::space(s, at))?;

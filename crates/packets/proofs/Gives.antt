@@ -4,68 +4,44 @@ use mathlib.Core.Path.{◌≡◌, refl}
 use mathlib.Core.Bool.{Bool, true, false}
 use mathlib.Core.List.{List, [], ◌∷◌}
 use Prim.Native.String.{String}
-use Rattle.primitive.specs.Answer.{Answer, Reader, matched, none, stop, if, and_then, or_else, ◌>>=◌, ◌>>◌, ◌<|>◌, pure, optional, verify}
+use Rattle.primitive.specs.Answer.{Answer, Reader, matched, dropped, none, stop, if, ◌>>=◌, ◌>>◌, ◌<|>◌, pure, optional, verify}
 use Rattle.primitive.specs.Text.{bytes}
 use Rattle.primitive.specs.Primitive.{space, spaced, named, same}
+use Rattle.primitive.proofs.Dropped.{Has, has_then, has_next, has_or}
 use Rattle.times.specs.Offset.{certain, without, unless}
 use Rattle.items.specs.Combined.{unstopped, attempt}
 
--- the value of an answer, if it has one, has the property
-abbrev pub Said : {A : Type 0} → (A → Type 0) → Answer A → Type 0
-Said P (matched v n) = P v
-Said P none = Unit {0}
-Said P stop = Unit {0}
-
 pub Gives : {A : Type 0} → (A → Type 0) → Reader A → Type 0
-Gives P p = (text : List ℕ) (at : ℕ) → Said P (p text at)
+Gives P p = (text : List ℕ) (at : ℕ) → Has P (p text at)
 
 module _ {A B : Type 0} (P : B → Type 0) where
-  -- what is known of the first value is known behind it
+  -- what is known of the first value is known after it
   pub then_gives : (Q : A → Type 0) (p : Reader A) (f : A → Reader B) → Gives Q p → ((a : A) → Q a → Gives P (f a)) → Gives P (p >>= f)
   unfolding Gives
-  then_gives Q p f h k text at = go (p text at) (h text at)
-    where
-      go : (a : Answer A) → Said Q a → Said P (and_then a (λ v n. f v text n))
-      go (matched v n) q = k v q text n
-      go none q = tt
-      go stop q = tt
+  then_gives Q p f h k text at = has_then P Q (p text at) (λ v n. f v text n) (h text at) (λ v n q. k v q text n)
 
   pub after : (p : Reader A) (f : A → Reader B) → ((a : A) → Gives P (f a)) → Gives P (p >>= f)
   unfolding Gives
-  after p f k text at = go (p text at)
-    where
-      go : (a : Answer A) → Said P (and_then a (λ v n. f v text n))
-      go (matched v n) = k v text n
-      go none = tt
-      go stop = tt
+  after p f k text at = has_next P (p text at) (λ v n. f v text n) (λ v n. k v text n)
 
   pub next : (p : Reader A) (q : Reader B) → Gives P q → Gives P (p >> q)
   unfolding Gives
-  next p q k text at = go (p text at)
-    where
-      go : (a : Answer A) → Said P (and_then a (λ v n. q text n))
-      go (matched v n) = k text n
-      go none = tt
-      go stop = tt
+  next p q k text at = has_next P (p text at) (λ v n. q text n) (λ v n. k text n)
 
   pub unless_gives : (p : Reader A) (q : Reader B) → Gives P q → Gives P (unless p q)
   unfolding Gives
   unless_gives p q k text at = go (p text at)
     where
-      go : (a : Answer A) → Said P (without a (q text at))
+      go : (a : Answer A) → Has P (without a (q text at))
       go (matched v n) = tt
+      go (dropped v n) = tt
       go none = k text at
       go stop = k text at
 
 module _ {A : Type 0} (P : A → Type 0) where
   pub or_gives : (p q : Reader A) → Gives P p → Gives P q → Gives P (p <|> q)
   unfolding Gives
-  or_gives p q h k text at = go (p text at) (h text at)
-    where
-      go : (a : Answer A) → Said P a → Said P (or_else a (q text at))
-      go (matched v n) e = e
-      go none e = k text at
-      go stop e = tt
+  or_gives p q h k text at = has_or P (p text at) (q text at) (h text at) (k text at)
 
   pub pure_gives : (v : A) → P v → Gives P (pure v)
   unfolding Gives
@@ -97,26 +73,23 @@ module _ {A : Type 0} (P : A → Type 0) where
   unfolding Gives
   attempt_gives p h text at = go (p text at) (h text at)
     where
-      go : (a : Answer A) → Said P a → Said P (unstopped a)
+      go : (a : Answer A) → Has P a → Has P (unstopped a)
       go (matched v n) e = e
+      go (dropped v n) e = e
       go none e = tt
       go stop e = tt
 
-  -- what holds of every match
-  pub by_match : (p : Reader A) → ((text : List ℕ) (at : ℕ) (v : A) (n : ℕ) → p text at ≡ matched v n → P v) → Gives P p
+  -- what is known of every answer
+  pub known : (p : Reader A) → ((text : List ℕ) (at : ℕ) → Has P (p text at)) → Gives P p
   unfolding Gives
-  by_match p f text at = go (p text at) refl
-    where
-      go : (a : Answer A) → p text at ≡ a → Said P a
-      go (matched v n) e = f text at v n e
-      go none e = tt
-      go stop e = tt
+  known p h = h
 
+  -- what holds of a match
   pub of_match : (p : Reader A) → Gives P p → (text : List ℕ) (at : ℕ) (v : A) (n : ℕ) → p text at ≡ matched v n → P v
   unfolding Gives
   of_match p h text at v n e = go (p text at) e (h text at)
     where
-      go : (a : Answer A) → a ≡ matched v n → Said P a → P v
+      go : (a : Answer A) → a ≡ matched v n → Has P a → P v
       go a k g = rw k at g
 
   -- every value of a table
@@ -129,6 +102,6 @@ module _ {A : Type 0} (P : A → Type 0) where
   named_gives w [] no_more text at = tt
   named_gives w (x ∷ es) (one_more f fs) text at = go (same w (bytes x.0)) (named_gives w es fs text at)
     where
-      go : (t : Bool) → Said P (named es w text at) → Said P (if t (matched x.1 at) (named es w text at))
+      go : (t : Bool) → Has P (named es w text at) → Has P (if t (matched x.1 at) (named es w text at))
       go true g = f
       go false g = g

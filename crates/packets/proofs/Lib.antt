@@ -6,3 +6,4 @@ pub mod Exact
 pub mod Gives
 pub mod Ranges
 pub mod OneReader
+pub mod Refusals

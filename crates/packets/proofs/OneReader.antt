@@ -11,7 +11,7 @@ use Rattle.items.specs.Items.{parse_items}
 use Rattle.extended.specs.Placed.{placed, ◌>>◌}
 use Rattle.builder.specs.Building.{build}
 use Rattle.packet.specs.Packet.{read_packet}
-use Rattle.reading.specs.Reading.{ascii_end, items_of, build_text, read_lowered, read_text}
+use Rattle.reading.specs.Reading.{ascii_end, items_of, build_parsed, read_parsed, read_text}
 use Rattle.round_trip.proofs.Places.{items_end}
 use Rattle.packets.specs.Writing.{packet}
 use Rattle.packets.proofs.Theorems.{packet_builds}
@@ -24,7 +24,7 @@ pub record Readable (s : List ℕ) : Type 0 where
   pub read : (parse_items (lowered s)).number ≡ 0
 
 read_builds : (s : List ℕ) (base : ExtendedDateTime) → Readable s → read_text s base ≡ (placed 0 (test base) >> build [] (parse_items (lowered s)).items base)
-unfolding read_text read_lowered build_text items_of
+unfolding read_text read_parsed build_parsed items_of
 read_builds s base h =
     rw (le-leb (length (lowered s)) 4096 h.long, le-leb (length (lowered s)) (ascii_end (lowered s)) h.ascii, eq-eqb (parse_items (lowered s)).number 0 h.read) refl
 

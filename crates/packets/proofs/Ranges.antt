@@ -2,7 +2,7 @@
 use Rattle.std.specs.Prelude.{Option, Some, None}
 use native.Mathlib.Omega.{arith}
 use Prim.Native.Nat.{ℕ, zero, suc, ◌+◌, ◌-◌, ◌/◌, ◌%◌, ◌^◌, ◌<◌, ◌≤◌}
-use mathlib.Core.Path.{◌≡◌, refl, sym}
+use mathlib.Core.Path.{◌≡◌, refl}
 use mathlib.Core.Bool.{Bool, true, false, not}
 use mathlib.Core.List.{List, [], ◌∷◌, ◌++◌}
 use lib.Dec.{ltb, leb, eqb}
@@ -12,13 +12,13 @@ use lib.IntN.{ℤ, pos, negsuc, neg_ℤ, nat_abs, ◌*ℤ◌}
 use lib.Signed.{mag}
 use borrow.Author.Tests.{lt-ltb, ltb-true, le-leb, leb-true}
 use Rattle.integers.specs.Integers.{in_i32, in_i64}
-use Rattle.primitive.specs.Answer.{Answer, Reader, matched, none, stop, if, optional}
+use Rattle.primitive.specs.Answer.{Answer, Reader, matched, dropped, none, stop, if, optional}
 use Rattle.primitive.specs.Text.{byte}
 use Rattle.primitive.specs.Primitive.{space, spaced, decimal, parse_uint, dec_uint, dec_uint_str, colon, sign, plus_or_minus, alpha1, named}
 use Rattle.primitive.specs.Epoch.{sec_and_nsec}
 use Rattle.primitive.specs.Ordinal.{signed, ordinals, text_ordinal, signed_number, number_ordinal, ordinal}
 use Rattle.primitive.specs.declared.SecAndNsec.{SecAndNsec}
-use Rattle.primitive.proofs.Limits.{nsec_limit}
+use Rattle.primitive.proofs.Limits.{nsec_below}
 use Rattle.primitive.proofs.Rows.{halves, both}
 use Rattle.dates.specs.Year.{widened, year_from_str, year_str}
 use Rattle.dates.specs.Date.{date_of, exists, with_year, without_year, Written, written, unwritten, dated, ended_year, dated_behind, nothing, hyphen, comma, dotted, iso1, five_digits, iso2, us_date, slash_part, us_rest, us, literal_month, literal1, literal2, literal3, literal, parse_non_iso}
@@ -32,9 +32,9 @@ use Rattle.times.specs.Offset.{offset_of, timezone_offset_colon, digits_offset, 
 use Rattle.times.specs.Time.{below, hour24, hour12, minute, second, optional_second, optional_minute, optional_correction, hour_offset, clock, iso, meridiem, am_pm_time, parse}
 use Rattle.times.specs.declared.offset.Offset.{Offset}
 use Rattle.times.specs.declared.time.Time.{Time}
-use Rattle.packets.proofs.Gives.{Gives, then_gives, after, next, unless_gives, or_gives, pure_gives, optional_gives, verify_gives, certain_gives, if_gives, spaced_gives, attempt_gives, by_match, of_match, no_more, one_more, named_gives}
+use Rattle.packets.proofs.Gives.{Gives, then_gives, after, next, unless_gives, or_gives, pure_gives, optional_gives, verify_gives, certain_gives, if_gives, spaced_gives, attempt_gives, known, of_match, no_more, one_more, named_gives}
 use Rattle.items.specs.Combined.{separator, starts_with_meridiem, unless_meridiem, iso_alone, combined_time, parse_time_after_date}
-use Rattle.items.specs.Items.{date_time_item, dated_item, iso_date, iso_item, date_item, time_item, relative_item, time_or_relative, other_item, parse_item, ended, further, items_from, parse_items}
+use Rattle.items.specs.Items.{date_time_item, dated_item, iso_date, iso_item, date_item, time_item, relative_item, time_or_relative, other_item, parse_item, ended, further, kept, items_from, parse_items}
 use Rattle.items.specs.declared.combined.DateTime.{DateTime}
 use Rattle.items.specs.declared.Item.{Item}
 use Rattle.items.specs.declared.Item.TheVariants as item
@@ -143,7 +143,7 @@ abbrev Nanos : SecAndNsec ℕ → Type 0
 Nanos v = v.nsec < 1000000000
 
 nsec_gives : Gives Nanos sec_and_nsec
-nsec_gives = by_match Nanos sec_and_nsec (λ text at v n e. nsec_limit text at n v (sym e))
+nsec_gives = known Nanos sec_and_nsec nsec_below
 
 second_gives : Gives GoodSecond second
 unfolding second
@@ -384,20 +384,22 @@ behind_all : (xs : List Item) (x : Item) → AllPlain xs → Plain x → AllPlai
 behind_all [] x no_item h = one_item h no_item
 behind_all (y ∷ xs) x (one_item g gs) h = one_item g (behind_all xs x gs h)
 
-items_plain : (room : ℕ) (xs : List Item) (text : List ℕ) (at : ℕ) → AllPlain xs → AllPlain (items_from room xs text at).items
+items_plain : (room : ℕ) (xs : List Item) (text : List ℕ) (at : ℕ) → AllPlain xs → AllPlain (items_from parse_item room xs text at).items
 unfolding items_from
-items_plain zero xs text at g = go (ltb (space text at) (length text)) (parse_item text at)
+items_plain zero xs text at g = go (ltb (space text at) (length text)) (kept (parse_item text at))
   where
     go : (t : Bool) (a : Answer Item) → AllPlain (if t (further a xs at (λ v n. ended xs 1 0)) (ended xs 0 0)).items
     go true (matched v n) = g
+    go true (dropped v n) = g
     go true none = g
     go true stop = g
     go false a = g
 items_plain (suc room) xs text at g = go (λ v n h. items_plain room (xs ++ (v ∷ [])) text n (behind_all xs v g h)) (ltb (space text at) (length text)) (parse_item text at) refl
   where
-    go : ((v : Item) (n : ℕ) → Plain v → AllPlain (items_from room (xs ++ (v ∷ [])) text n).items) → (t : Bool) (a : Answer Item) → parse_item text at ≡ a →
-        AllPlain (if t (further a xs at (λ v n. items_from room (xs ++ (v ∷ [])) text n)) (ended xs 0 0)).items
+    go : ((v : Item) (n : ℕ) → Plain v → AllPlain (items_from parse_item room (xs ++ (v ∷ [])) text n).items) → (t : Bool) (a : Answer Item) → parse_item text at ≡ a →
+        AllPlain (if t (further a xs at (λ v n. items_from parse_item room (xs ++ (v ∷ [])) text n)) (ended xs 0 0)).items
     go later true (matched v n) e = later v n (of_match Plain parse_item item_gives text at v n e)
+    go later true (dropped v n) e = g
     go later true none e = g
     go later true stop e = g
     go later false a e = g

@@ -6,7 +6,9 @@ use mathlib.Core.Path.{◌≡◌, sym, ap, ◌∙◌}
 use mathlib.Core.List.{List}
 use Rattle.std.specs.Borrow.{Bor}
 use Rattle.primitive.specs.Text.{lowered, part_answer}
-use Rattle.primitive.specs.Answer.{Answer, matched, none, and_then, or_else, answer_of, place_answer}
+use mathlib.Core.Bool.{Bool}
+use Rattle.primitive.specs.Answer.{Answer, matched, none, carry, and_then, or_else, answer_of, place_answer, lossy_answer}
+use Rattle.primitive.proofs.Dropped.{carried_then, carried_first, carried}
 use Rattle.std.specs.Prelude.{Option, Some, None}
 
 -- For any answer: the three ways on, and the two of a choice.
@@ -44,6 +46,21 @@ module _ {A : Type 0} (p : Answer A) (r : Option (A × ℕ)) (e : answer_of r �
     pub value_else_then : (d : Answer A) (q : Answer B) → r ≡ None → q ≡ and_then d f → q ≡ and_then (or_else p d) f
     value_else_then d q k g = else_then f p d q (sym e ∙ ap answer_of k) g
 
+-- Where a value, its end and a flag for a lost digit were read.
+module _ {A : Type 0} (p : Answer A) (r : Option (A × ℕ × Bool)) (e : lossy_answer r ≡ p) where
+  module _ {B : Type 0} (f : A → ℕ → Answer B) where
+    pub lossy_match : (v : A) (n : ℕ) (d : Bool) (q : Answer B) → r ≡ Some (v, n, d) → q ≡ carry d (f v n) → q ≡ and_then p f
+    lossy_match v n d q k g = carried_then f p d v n q (sym (ap lossy_answer k) ∙ e) g
+
+    pub lossy_none : r ≡ None → none ≡ and_then p f
+    lossy_none k = then_none f p (sym e ∙ ap lossy_answer k)
+
+    pub lossy_first_then : (a : Answer A) (v : A) (n : ℕ) (d : Bool) (q : Answer B) → r ≡ Some (v, n, d) → q ≡ carry d (f v n) → q ≡ and_then (or_else p a) f
+    lossy_first_then a v n d q k g = carried_then f (or_else p a) d v n q (carried_first p a d v n (sym (ap lossy_answer k) ∙ e)) g
+
+    pub lossy_else_then : (a : Answer A) (q : Answer B) → r ≡ None → q ≡ and_then a f → q ≡ and_then (or_else p a) f
+    lossy_else_then a q k g = else_then f p a q (sym e ∙ ap lossy_answer k) g
+
 -- Where an end was read.
 module _ (p : Answer (Unit {0})) (r : Option ℕ) (e : place_answer r ≡ p) where
   module _ {B : Type 0} (f : Unit {0} → ℕ → Answer B) where
@@ -65,4 +82,4 @@ module _ (p : Answer (List ℕ)) (r : Option (Bor (List ℕ) × ℕ)) (e : part_
   pub part_none : r ≡ None → none ≡ and_then p f
   part_none k = then_none f p (sym e ∙ ap part_answer k)
 
-pub ruleset chain = (value_match, value_none, value_first_then, value_else_then, place_match, place_none, place_then_else, part_match, part_none, rules)
+pub ruleset chain = (value_match, value_none, value_first_then, value_else_then, place_match, place_none, place_then_else, part_match, part_none, lossy_match, lossy_none, lossy_first_then, lossy_else_then, carried, rules)

@@ -6,10 +6,10 @@ use mathlib.Core.List.{List, [], ◌∷◌}
 use Rattle.std.specs.Prelude.{Some, None}
 use mathlib.Core.Bool.{true, false}
 use lib.IntN.{pos, negsuc}
-use Rattle.primitive.specs.Answer.{Answer, Reader, matched, none}
+use Rattle.primitive.specs.Answer.{Answer, Reader, matched, dropped, none}
 use Rattle.primitive.specs.Text.{lower, lowered, bytes, blank, digit, letter, run, past, some, starts, tag, quoted}
 use Rattle.primitive.specs.Primitive.{multispace0, multispace1, closing, inside, comment, no_digit, sign, ignored_hyphen_or_plus, ignored, skip, space, decimal, parse_uint, dec_uint_str, dec_uint, colon, plus_or_minus, alpha1, same, named, beside}
-use Rattle.primitive.specs.Epoch.{padded, nanoseconds, point_or_comma, fraction, sec_and_nsec}
+use Rattle.primitive.specs.Epoch.{padded, nanoseconds, nonzero, lost, point_or_comma, fraction, sec_and_nsec}
 use Rattle.primitive.specs.Ordinal.{signed, signed_number, ordinals, text_ordinal, number_ordinal, ordinal}
 
 -- what a reader makes of a quoted text, from its start
@@ -44,16 +44,17 @@ singles : (reads (quoted "ago") "AGOX" ≡ matched tt 3) × (reads (quoted "ago"
 unfolding lower lowered bytes blank digit letter run past some starts tag closing inside comment no_digit sign ignored_hyphen_or_plus ignored multispace0 multispace1 skip space colon plus_or_minus alpha1
 singles = (refl, refl, refl, refl, refl, refl, refl, refl, refl, refl)
 
--- Fractions: nine digits count; a point without a digit is left unread.
+-- Fractions: nine digits count, and of those after them only zeros lose nothing; a point without a digit is left unread.
 fractions : (reads sec_and_nsec "1.5" ≡ matched (record { sec = 1; nsec = 500000000 }) 3)
-    × (reads sec_and_nsec "59,1234567899" ≡ matched (record { sec = 59; nsec = 123456789 }) 13)
+    × (reads sec_and_nsec "59,1234567899" ≡ dropped (record { sec = 59; nsec = 123456789 }) 13)
+    × (reads sec_and_nsec "59,123456789000" ≡ matched (record { sec = 59; nsec = 123456789 }) 15)
     × (reads sec_and_nsec "7." ≡ matched (record { sec = 7; nsec = 0 }) 1)
     × (reads sec_and_nsec "7.x" ≡ matched (record { sec = 7; nsec = 0 }) 1)
     × (reads sec_and_nsec "7. 5" ≡ matched (record { sec = 7; nsec = 0 }) 1)
     × (reads sec_and_nsec "18446744073709551615.000000001" ≡ matched (record { sec = 18446744073709551615; nsec = 1 }) 30)
     × (reads sec_and_nsec ".5" ≡ none) × (reads sec_and_nsec "18446744073709551616" ≡ none)
-unfolding lower lowered bytes digit run past some starts tag decimal parse_uint dec_uint_str dec_uint padded nanoseconds point_or_comma fraction sec_and_nsec
-fractions = (refl, refl, refl, refl, refl, refl, refl, refl)
+unfolding lower lowered bytes digit run past some starts tag decimal parse_uint dec_uint_str dec_uint padded nanoseconds nonzero lost point_or_comma fraction sec_and_nsec
+fractions = (refl, refl, refl, refl, refl, refl, refl, refl, refl)
 
 -- Ordinals: a word of 29.1 or a signed number; "second" is no ordinal; a sign in front of a comment is ignored.
 ordinal_numbers : (reads ordinal "Last" ≡ matched (negsuc 0) 4) × (reads ordinal " twelfth month" ≡ matched (pos 12) 8)

@@ -9,12 +9,13 @@ use mathlib.Core.Bool.{Bool, true, false, ◌&&◌}
 use lib.ListN.{length, get_or, drop, length-drop}
 use lib.Dec.{ltb, eqb, leb}
 use Prim.Native.String.{String}
-use Rattle.primitive.specs.Answer.{Answer, Reader, matched, none, stop, if, and_then, or_else, ◌>>=◌, ◌>>◌, ◌<|>◌, pure, value, optional, verify}
+use Rattle.primitive.specs.Answer.{Answer, Reader, matched, dropped, none, stop, if, and_then, or_else, ◌>>=◌, ◌>>◌, ◌<|>◌, pure, value, optional, verify, cut}
 use Rattle.primitive.specs.Text.{bytes, blank, digit, run, past, some, starts, tag}
 use Rattle.primitive.specs.Primitive.{multispace0, multispace1, inside, comment, no_digit, sign, ignored_hyphen_or_plus, ignored, behind, skip, space, spaced, decimal, parse_uint, dec_uint_str, dec_uint, colon, plus_or_minus, alpha1, same, named}
-use Rattle.primitive.specs.Epoch.{point_or_comma, nanoseconds, fraction, sec_and_nsec}
+use Rattle.primitive.specs.Epoch.{point_or_comma, nanoseconds, lost, fraction, sec_and_nsec}
 use Rattle.primitive.specs.Ordinal.{ordinals, signed, signed_number, text_ordinal, number_ordinal, ordinal}
 use Rattle.primitive.proofs.Comments.{inside_within}
+use Rattle.primitive.proofs.Dropped.{drops_never}
 
 -- n is a place that reading from `at` may end at
 abbrev pub Onward : List ℕ → ℕ → ℕ → Type 0
@@ -41,6 +42,9 @@ module _ {A : Type 0} (text : List ℕ) (at : ℕ) where
   pub stop_ends : Ends {A = A} text at stop
   stop_ends v n e = let z : ◌≡◌ {A = ℕ} 0 1 = cc in (omega arith, λ h. omega arith)
 
+  pub dropped_ends : (u : A) (m : ℕ) → Ends text at (dropped u m)
+  dropped_ends u m v n e = let z : ◌≡◌ {A = ℕ} 0 1 = cc in (omega arith, λ h. omega arith)
+
   matched_ends : (u : A) (m : ℕ) → Onward text at m → Ends text at (matched u m)
   matched_ends u m h v n e = let z : n ≡ m = cc in rw z h
 
@@ -60,6 +64,7 @@ module _ {A B : Type 0} where
     where
       go : (a : Answer A) → p text at ≡ a → Ends text at (and_then a (λ v n. f v text n))
       go (matched u m) e = λ v n g. onward_then text at m n (h text at u m e) (k u text m v n g)
+      go (dropped u m) e = λ v n g. absurd (drops_never (f u text m) v n g)
       go none e = none_ends text at
       go stop e = stop_ends text at
 
@@ -72,6 +77,7 @@ module _ {A : Type 0} where
     where
       go : (a : Answer A) → p text at ≡ a → Ends text at (or_else a (q text at))
       go (matched u m) e = λ v n g. h text at v n (e ∙ g)
+      go (dropped u m) e = dropped_ends text at u m
       go none e = k text at
       go stop e = stop_ends text at
 
@@ -80,6 +86,10 @@ module _ {A : Type 0} where
 
   pub verify_forward : (t : Bool) (v : A) → Forward (verify t v)
   verify_forward t v text at = if_ends text at t _ _ (pure_forward v text at) (none_ends text at)
+
+  pub cut_forward : (t : Bool) (v : A) → Forward (cut t v)
+  cut_forward true v text at = dropped_ends text at v at
+  cut_forward false v text at = pure_forward v text at
 
   pub optional_forward : (d : A) (p : Reader A) → Forward p → Forward (optional d p)
   optional_forward d p h = or_forward p (pure d) h (pure_forward d)
@@ -179,6 +189,7 @@ skip_onward (suc k) text at = go (ignored text at) refl (skip_onward k text)
     go (matched tt n) e f =
         onward_then text at n _ (ignored_forward text at tt n e)
         (onward_then text n (past blank text n) _ (past_onward blank text n) (f (past blank text n)))
+    go (dropped tt n) e f = onward_here text at
     go none e f = onward_here text at
     go stop e f = onward_here text at
 
@@ -225,7 +236,7 @@ pub fraction_forward : Forward fraction
 unfolding fraction
 fraction_forward =
     next_forward _ _ point_or_comma_forward
-    (then_forward _ _ dec_uint_str_forward (λ ds. pure_forward (nanoseconds ds)))
+    (then_forward _ _ dec_uint_str_forward (λ ds. cut_forward (lost ds) (nanoseconds ds)))
 
 pub sec_and_nsec_forward : Forward sec_and_nsec
 unfolding sec_and_nsec

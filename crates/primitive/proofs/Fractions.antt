@@ -1,6 +1,7 @@
--- The laws of `nanoseconds`: for the loop over nine digits, whose sum stays below 10 to the power of the digits passed. Assumes
--- nothing.
-use borrow.Author.Tests.{leb-true}
+-- The laws of `nanoseconds`, for the loop over nine digits, whose sum stays below 10 to the power of the digits passed; and those of
+-- `lost`, for the loop over the digits after them. Assumes nothing.
+use borrow.Author.Rules.{rules}
+use borrow.Author.Tests.{leb-true, ne_eqb}
 use native.Mathlib.Omega.{arith}
 use Prim.Native.Nat.{ℕ, zero, suc, ◌+◌, ◌-◌, ◌*◌, ◌^◌, ◌<◌, ◌≤◌}
 use native.Mathlib.Nat.{pow-suc, pow-le-pow_right}
@@ -14,11 +15,12 @@ use lib.Dec.{ltb, leb}
 use Rattle.primitive.specs.Answer.{matched, none, if}
 use Rattle.primitive.specs.Text.{lower, lowered, digit, run, past, some}
 use Rattle.primitive.specs.Primitive.{dec_uint_str}
-use Rattle.primitive.specs.Epoch.{padded, nanoseconds}
+use Rattle.primitive.specs.Epoch.{padded, nanoseconds, nonzero, lost}
 use Rattle.primitive.proofs.Lowered.{clash, digit_lower, digit_same, get_or_lowered, length_lowered, rest_cons, rest_none}
 use Rattle.primitive.proofs.Forward.{run_le}
 use Rattle.primitive.proofs.Limits.{slice_take}
 use Rattle.primitive.proofs.Values.{grown, grown_zero, grown_none, grown_cons}
+use Rattle.primitive.proofs.Tags.{lowers_alone}
 use Rattle.primitive.proofs.Chain.{chain}
 
 -- a run, taken alone, is a run to its end
@@ -115,5 +117,31 @@ module _ (acc k : ℕ) (b : acc < 10 ^ k) (h : k < 9) where
 
   pub next_small : (d : ℕ) → d ≤ 9 → acc * 10 + d < 10 ^ (k + 1)
   next_small d g = rw (add-one, pow-suc 10 k) (omega arith)
+
+-- ---- the digits after the ninth
+
+pub lost_start : (s : List ℕ) → nonzero (drop 9 (lowered s)) ≡ lost (lowered s)
+unfolding lost
+lost_start s = refl
+
+module _ (s : List ℕ) (i : ℕ) (inv : nonzero (drop i (lowered s)) ≡ lost (lowered s)) where
+  pub lost_none : length s ≤ i → false ≡ lost (lowered s)
+  unfolding nonzero
+  lost_none h = rw (rest_none s i h) at inv
+
+  module _ (h : i < length s) where
+    -- the rest with the byte as it stands
+    rest_here : drop i (lowered s) ≡ lower (get_or s i 0) ∷ drop (i + 1) (lowered s)
+    rest_here = rest_cons s i h (lower (get_or s i 0)) refl
+
+    pub lost_found : (get_or s i 0 ≡ 48 → ⊥) → true ≡ lost (lowered s)
+    unfolding nonzero
+    lost_found g = rw (rest_here, ← lowers_alone (get_or s i 0) 48 false (omega arith) (sym (ne_eqb (get_or s i 0) 48 g))) at inv
+
+    pub lost_next : get_or s i 0 ≡ 48 → nonzero (drop (i + 1) (lowered s)) ≡ lost (lowered s)
+    unfolding nonzero lower
+    lost_next g = rw (rest_here, g) at inv
+
+pub ruleset losing = (lost_start, lost_none, lost_found, lost_next, rules)
 
 pub ruleset fractions = (str_digits, nano_start, nano_done, nano_zero, nano_digit, next_small, chain)

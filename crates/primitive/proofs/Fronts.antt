@@ -9,7 +9,7 @@ use native.Mathlib.Decide.{dec_lt}
 use lib.Dec.{leb, eqb}
 use lib.ListN.{length, get_or, drop, get_or-eq_default}
 use lib.Seq.{get_or-drop, drop-drop}
-use Rattle.primitive.specs.Answer.{Answer, matched, none, stop, if}
+use Rattle.primitive.specs.Answer.{Answer, matched, dropped, none, stop, if}
 use Rattle.primitive.specs.Text.{lower, lowered, blank, digit, letter, run, past, some, starts, tag}
 use Rattle.primitive.specs.Primitive.{dec_uint_str, dec_uint, alpha1, ignored, behind, skip, space}
 use Rattle.primitive.proofs.Forward.{past_onward}
@@ -130,6 +130,10 @@ skip_again zero text at h e = (e, still)
     still (suc j) = rw (ignored_end text at (omega arith))
 skip_again (suc k) text at h e = go (ignored text at) refl (λ m g f. skip_again k text m g f)
   where
+    stays : (a : Answer (Unit {0})) → ignored text at ≡ a → ((f : ℕ → ℕ) → behind a at f ≡ at) → (j : ℕ) → skip j text at ≡ at
+    stays a q g zero = refl
+    stays a q g (suc j) = rw q (g _)
+
     go : (a : Answer (Unit {0})) → ignored text at ≡ a → ((m : ℕ) → length text - m ≤ k → past blank text m ≡ m → (past blank text (skip k text m) ≡ skip k text m) × ((j : ℕ) → skip j text (skip k text m) ≡ skip k text m))
         → (past blank text (behind a at (λ n. skip k text (past blank text n))) ≡ behind a at (λ n. skip k text (past blank text n)))
         × ((j : ℕ) → skip j text (behind a at (λ n. skip k text (past blank text n))) ≡ behind a at (λ n. skip k text (past blank text n)))
@@ -138,16 +142,9 @@ skip_again (suc k) text at h e = go (ignored text at) refl (λ m g f. skip_again
         let y = past_onward blank text n in
         let x = y.0 in
         f (past blank text n) (omega arith) (past_again blank text n)
-    go none q f = (e, still)
-      where
-        still : (j : ℕ) → skip j text at ≡ at
-        still zero = refl
-        still (suc j) = rw q
-    go stop q f = (e, still)
-      where
-        still : (j : ℕ) → skip j text at ≡ at
-        still zero = refl
-        still (suc j) = rw q
+    go (dropped u n) q f = (e, stays (dropped u n) q (λ g. refl))
+    go none q f = (e, stays none q (λ g. refl))
+    go stop q f = (e, stays stop q (λ g. refl))
 
 pub space_again : (text : List ℕ) (at : ℕ) → space text (space text at) ≡ space text at
 unfolding space

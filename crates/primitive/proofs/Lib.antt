@@ -3,6 +3,7 @@ pub mod Lowered
 pub mod Runs
 pub mod Tags
 pub mod Values
+pub mod Dropped
 pub mod Chain
 pub mod Numbers
 pub mod Comments

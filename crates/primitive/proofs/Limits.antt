@@ -14,13 +14,14 @@ use lib.Seq.{slice}
 use lib.Dec.{ltb, leb}
 use lib.IntN.{ℤ, neg_ℤ}
 use lib.Signed.{mag}
-use Rattle.primitive.specs.Answer.{Answer, matched, none, stop, if, and_then, or_else}
+use Rattle.primitive.specs.Answer.{Answer, matched, dropped, none, stop, if, and_then, or_else, carry}
 use Rattle.primitive.specs.Text.{bytes, digit, run, past, some}
 use Rattle.primitive.specs.Primitive.{space, sign, decimal, dec_uint, dec_uint_str, alpha1, same, named}
-use Rattle.primitive.specs.Epoch.{padded, nanoseconds, point_or_comma, fraction, sec_and_nsec}
+use Rattle.primitive.specs.Epoch.{padded, nanoseconds, lost, point_or_comma, fraction, sec_and_nsec}
 use Rattle.primitive.specs.Ordinal.{signed, ordinals, text_ordinal, signed_number, number_ordinal, ordinal}
 use Rattle.primitive.specs.declared.SecAndNsec.{SecAndNsec}
 use Rattle.primitive.proofs.Numbers.{number_limit}
+use Rattle.primitive.proofs.Dropped.{Has, has_carry, carry_has, has_or, has_then, has_next, drops_never}
 
 clash : ◌≡◌ {A = ℕ} 0 1 → ⊥
 clash z = omega arith
@@ -79,46 +80,34 @@ nanoseconds_below : (ds : List ℕ) → Digits ds → nanoseconds ds < 100000000
 unfolding nanoseconds
 nanoseconds_below ds h = rw (padded_length 9 ds) at (decimal_below (padded 9 ds) (padded_digits 9 ds h))
 
-str_digits : (text : List ℕ) (at n : ℕ) (w : List ℕ) → dec_uint_str text at ≡ matched w n → Digits w
+str_digits : (text : List ℕ) (at : ℕ) → Has Digits (dec_uint_str text at)
 unfolding dec_uint_str some past
-str_digits text at n w = go (ltb at (at + run digit (drop at text)))
+str_digits text at = go (ltb at (at + run digit (drop at text)))
   where
-    go : (t : Bool) → if t (matched (slice at (at + run digit (drop at text)) text) (at + run digit (drop at text))) none ≡ matched w n → Digits w
-    go true e =
-        let z : w ≡ slice at (at + run digit (drop at text)) text = cc in
-        rw (z, slice_take at (run digit (drop at text)) text) (run_digits (drop at text))
-    go false e = let z : ◌≡◌ {A = ℕ} 0 1 = cc in absurd (clash z)
+    go : (t : Bool) → Has Digits (if t (matched (slice at (at + run digit (drop at text)) text) (at + run digit (drop at text))) none)
+    go true = rw (slice_take at (run digit (drop at text)) text) (run_digits (drop at text))
+    go false = tt
 
-fraction_below : (text : List ℕ) (at v n : ℕ) → fraction text at ≡ matched v n → v < 1000000000
+abbrev Below : ℕ → Type 0
+Below v = v < 1000000000
+
+fraction_below : (text : List ℕ) (at : ℕ) → Has Below (fraction text at)
 unfolding fraction
-fraction_below text at v n = go (point_or_comma text at)
-  where
-    go_digits : (m : ℕ) (a : Answer (List ℕ)) → dec_uint_str text m ≡ a → and_then a (λ ds k. matched (nanoseconds ds) k) ≡ matched v n → v < 1000000000
-    go_digits m (matched ds k) e f = let z : v ≡ nanoseconds ds = cc in rw z (nanoseconds_below ds (str_digits text m k ds e))
-    go_digits m none e f = let z : ◌≡◌ {A = ℕ} 0 1 = cc in absurd (clash z)
-    go_digits m stop e f = let z : ◌≡◌ {A = ℕ} 0 1 = cc in absurd (clash z)
+fraction_below text at =
+    has_next Below (point_or_comma text at) _
+    (λ u m. has_then Below Digits (dec_uint_str text m) _ (str_digits text m) (λ ds k h. has_carry Below (lost ds) (nanoseconds ds) k (nanoseconds_below ds h)))
 
-    go : (a : Answer (Unit {0})) → and_then a (λ u m. and_then (dec_uint_str text m) (λ ds k. matched (nanoseconds ds) k)) ≡ matched v n → v < 1000000000
-    go (matched u m) f = go_digits m (dec_uint_str text m) refl f
-    go none f = let z : ◌≡◌ {A = ℕ} 0 1 = cc in absurd (clash z)
-    go stop f = let z : ◌≡◌ {A = ℕ} 0 1 = cc in absurd (clash z)
+abbrev pub Fraction : SecAndNsec ℕ → Type 0
+Fraction v = v.nsec < 1000000000
 
-nsec_below : (text : List ℕ) (at n : ℕ) (v : SecAndNsec ℕ) → sec_and_nsec text at ≡ matched v n → v.nsec < 1000000000
+pub nsec_below : (text : List ℕ) (at : ℕ) → Has Fraction (sec_and_nsec text at)
 unfolding sec_and_nsec
-nsec_below text at n v = go (dec_uint 18446744073709551615 text at)
-  where
-    go_fraction : (sec m : ℕ) (a : Answer ℕ) → fraction text m ≡ a → and_then (or_else a (matched 0 m)) (λ nsec k. matched (record { sec = sec; nsec = nsec }) k) ≡ matched v n → v.nsec < 1000000000
-    go_fraction sec m (matched d k) e f = let z : v.nsec ≡ d = cc in rw z (fraction_below text m d k e)
-    go_fraction sec m none e f = let z : v.nsec ≡ 0 = cc in rw z (omega arith)
-    go_fraction sec m stop e f = let z : ◌≡◌ {A = ℕ} 0 1 = cc in absurd (clash z)
+nsec_below text at =
+    has_next Fraction (dec_uint 18446744073709551615 text at) _
+    (λ sec m. has_then Fraction Below (or_else (fraction text m) (matched 0 m)) (λ nsec k. matched (record { sec = sec; nsec = nsec }) k) (has_or Below (fraction text m) (matched 0 m) (fraction_below text m) (omega arith)) (λ nsec k h. h))
 
-    go : (a : Answer ℕ) → and_then a (λ sec m. and_then (or_else (fraction text m) (matched 0 m)) (λ nsec k. matched (record { sec = sec; nsec = nsec }) k)) ≡ matched v n → v.nsec < 1000000000
-    go (matched sec m) f = go_fraction sec m (fraction text m) refl f
-    go none f = let z : ◌≡◌ {A = ℕ} 0 1 = cc in absurd (clash z)
-    go stop f = let z : ◌≡◌ {A = ℕ} 0 1 = cc in absurd (clash z)
-
-pub nsec_limit : (text : List ℕ) (at n : ℕ) (v : SecAndNsec ℕ) → matched v n ≡ sec_and_nsec text at → v.nsec < 1000000000
-nsec_limit text at n v e = nsec_below text at n v (sym e)
+pub nsec_limit : (text : List ℕ) (at n : ℕ) (v : SecAndNsec ℕ) (d : Bool) → carry d (matched v n) ≡ sec_and_nsec text at → v.nsec < 1000000000
+nsec_limit text at n v d e = carry_has Fraction d v n (rw e (nsec_below text at))
 
 -- ---- ordinals
 
@@ -156,6 +145,7 @@ text_range text at n v = go (alpha1 text (space text at))
   where
     go : (a : Answer (List ℕ)) → and_then a (λ w m. named ordinals w text m) ≡ matched v n → mag (neg_ℤ v) < 2147483648
     go (matched w m) e = ltb-true (mag (neg_ℤ v)) 2147483648 (named_every negatable w text m n v ordinals refl e)
+    go (dropped w m) e = absurd (drops_never (named ordinals w text m) v n e)
     go none e = let z : ◌≡◌ {A = ℕ} 0 1 = cc in absurd (clash z)
     go stop e = let z : ◌≡◌ {A = ℕ} 0 1 = cc in absurd (clash z)
 
@@ -165,6 +155,7 @@ number_range text at n v negative = go (dec_uint 2147483647 text (space text at)
   where
     go : (a : Answer ℕ) → dec_uint 2147483647 text (space text at) ≡ a → and_then a (λ k m. matched (signed negative k) m) ≡ matched v n → mag (neg_ℤ v) < 2147483648
     go (matched k m) f e = let z : v ≡ signed negative k = cc in rw z (signed_negatable negative k (number_limit 2147483647 text (space text at) k m f))
+    go (dropped k m) f e = let z : ◌≡◌ {A = ℕ} 0 1 = cc in absurd (clash z)
     go none f e = let z : ◌≡◌ {A = ℕ} 0 1 = cc in absurd (clash z)
     go stop f e = let z : ◌≡◌ {A = ℕ} 0 1 = cc in absurd (clash z)
 
@@ -174,6 +165,7 @@ number_ordinal_range text at n v = go (or_else (sign text (space text at)) (matc
   where
     go : (a : Answer Bool) → and_then a (λ negative m. signed_number negative text m) ≡ matched v n → mag (neg_ℤ v) < 2147483648
     go (matched negative m) e = number_range text m n v negative e
+    go (dropped negative m) e = absurd (drops_never (signed_number negative text m) v n e)
     go none e = let z : ◌≡◌ {A = ℕ} 0 1 = cc in absurd (clash z)
     go stop e = let z : ◌≡◌ {A = ℕ} 0 1 = cc in absurd (clash z)
 
@@ -183,6 +175,7 @@ ordinal_within text at n v = go (text_ordinal text at) refl
   where
     go : (a : Answer ℤ) → text_ordinal text at ≡ a → or_else a (number_ordinal text at) ≡ matched v n → mag (neg_ℤ v) < 2147483648
     go (matched u m) f e = text_range text at n v (f ∙ e)
+    go (dropped u m) f e = let z : ◌≡◌ {A = ℕ} 0 1 = cc in absurd (clash z)
     go none f e = number_ordinal_range text at n v e
     go stop f e = let z : ◌≡◌ {A = ℕ} 0 1 = cc in absurd (clash z)
 

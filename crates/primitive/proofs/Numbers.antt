@@ -10,10 +10,11 @@ use mathlib.Core.Bool.{Bool, true, false}
 use lib.Dec.{ltb, leb}
 use mir.Syntax.{Width, w32}
 use mir.Val.{Fits, SFits, bits}
-use Rattle.primitive.specs.Answer.{Answer, matched, none, stop, if, and_then}
+use Rattle.primitive.specs.Answer.{Answer, matched, dropped, none, stop, if, and_then}
 use Rattle.primitive.specs.Primitive.{decimal, parse_uint, dec_uint_str, dec_uint}
 use Rattle.primitive.specs.Ordinal.{signed}
 use Rattle.primitive.proofs.Chain.{chain}
+use Rattle.primitive.proofs.Dropped.{drops_never}
 
 -- a number that was read is at most its limit
 pub parse_limit : (max : ℕ) (w text : List ℕ) (at v n : ℕ) → parse_uint max w text at ≡ matched v n → v ≤ max
@@ -34,6 +35,7 @@ number_limit max text at v n = go (dec_uint_str text at)
   where
     go : (a : Answer (List ℕ)) → and_then a (λ w m. parse_uint max w text m) ≡ matched v n → v ≤ max
     go (matched w m) e = parse_limit max w text m v n e
+    go (dropped w m) e = absurd (drops_never (parse_uint max w text m) v n e)
     go none e = let z : ◌≡◌ {A = ℕ} 0 1 = cc in omega arith
     go stop e = let z : ◌≡◌ {A = ℕ} 0 1 = cc in omega arith
 

@@ -8,7 +8,7 @@ use mathlib.Core.Bool.{Bool, true, false, ◌&&◌}
 use lib.ListN.{length, get_or}
 use lib.Seq.{slice}
 use lib.Dec.{ltb, leb}
-use Rattle.primitive.specs.Answer.{Answer, matched, none, stop, if, and_then, answer_of}
+use Rattle.primitive.specs.Answer.{Answer, matched, dropped, none, stop, if, and_then, answer_of}
 use Rattle.primitive.specs.Text.{lower, lowered, digit, past, some}
 use Rattle.primitive.specs.Primitive.{decimal, parse_uint, dec_uint_str, dec_uint}
 use Rattle.primitive.proofs.Lowered.{clash, digit_same}
@@ -17,6 +17,7 @@ use Rattle.primitive.proofs.Forward.{past_onward}
 use Rattle.primitive.proofs.Values.{grown_from, grown_start, parse_done, parse_next, over}
 use Rattle.primitive.proofs.Chain.{chain}
 use Rattle.std.specs.Prelude.{Option}
+use Rattle.primitive.proofs.Dropped.{drops_never}
 
 -- `acc` with the digits from i on behind it has the value of all the digits at `at`
 pub scanned : ℕ → List ℕ → ℕ → ℕ → Type 0
@@ -96,6 +97,7 @@ module _ (text : List ℕ) (at v n : ℕ) (max more : ℕ) (h : leb max more ≡
     where
       go : (a : Answer (List ℕ)) → matched v n ≡ and_then a (λ w m. parse_uint max w text m) → matched v n ≡ and_then a (λ w m. parse_uint more w text m)
       go (matched w m) f = wide w m f
+      go (dropped w m) f = absurd (drops_never (parse_uint max w text m) v n (sym f))
       go none f = f
       go stop f = f
 

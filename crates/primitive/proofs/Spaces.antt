@@ -7,7 +7,7 @@ use mathlib.Core.Path.{◌≡◌, refl, sym, ap, ◌∙◌}
 use mathlib.Core.List.{List, [], ◌∷◌}
 use mathlib.Core.Bool.{Bool, true, false}
 use lib.ListN.{length, get_or, drop_of_length-le, get_or-eq_default}
-use Rattle.primitive.specs.Answer.{Answer, matched, none, stop, and_then, or_else, place_answer}
+use Rattle.primitive.specs.Answer.{Answer, matched, dropped, none, stop, and_then, or_else, place_answer}
 use Rattle.primitive.specs.Text.{lower, lowered, blank, digit, past, starts, tag}
 use Rattle.primitive.specs.Primitive.{multispace0, inside, comment, no_digit, sign, ignored_hyphen_or_plus, ignored, behind, skip, space}
 use Rattle.primitive.proofs.Lowered.{length_lowered, get_or_lowered, beyond, rest_cons, clash, digit_lower, digit_no_blank, blank_lower, lower_above}
@@ -16,6 +16,7 @@ use Rattle.primitive.proofs.Comments.{inside_within, inside_done, inside_found, 
 use Rattle.primitive.proofs.Forward.{tag_ends, then_forward, multispace0_forward, no_digit_forward, past_onward}
 use Rattle.primitive.proofs.Chain.{chain}
 use Rattle.std.specs.Prelude.{Option, Some, None}
+use Rattle.primitive.proofs.Dropped.{drops_never}
 
 -- ---- a comment and an ignored sign end behind their start
 
@@ -28,6 +29,7 @@ comment_behind text at n = go (tag (40 ∷ []) text at) refl
   where
     go : (a : Answer (Unit {0})) → tag (40 ∷ []) text at ≡ a → and_then a (λ v m. inside text m) ≡ matched tt n → at < n
     go (matched tt m) e h = let z = byte_after 40 text at m e in let y = inside_within text m n h in let x = y.0 in omega arith
+    go (dropped tt m) e h = absurd (drops_never (inside text m) tt n h)
     go none e h = let z : ◌≡◌ {A = ℕ} 0 1 = cc in omega arith
     go stop e h = let z : ◌≡◌ {A = ℕ} 0 1 = cc in omega arith
 
@@ -38,7 +40,9 @@ sign_behind text at n v = go (tag (43 ∷ []) text at) (tag (45 ∷ []) text at)
     go : (a b : Answer (Unit {0})) → tag (43 ∷ []) text at ≡ a → tag (45 ∷ []) text at ≡ b
         → or_else (and_then a (λ u m. matched false m)) (and_then b (λ u m. matched true m)) ≡ matched v n → at < n
     go (matched tt m) b e f h = let z : m ≡ n = cc in let y = byte_after 43 text at m e in omega arith
+    go (dropped tt m) b e f h = let z : ◌≡◌ {A = ℕ} 0 1 = cc in omega arith
     go none (matched tt m) e f h = let z : m ≡ n = cc in let y = byte_after 45 text at m f in omega arith
+    go none (dropped tt m) e f h = let z : ◌≡◌ {A = ℕ} 0 1 = cc in omega arith
     go none none e f h = let z : ◌≡◌ {A = ℕ} 0 1 = cc in omega arith
     go none stop e f h = let z : ◌≡◌ {A = ℕ} 0 1 = cc in omega arith
     go stop b e f h = let z : ◌≡◌ {A = ℕ} 0 1 = cc in omega arith
@@ -53,6 +57,7 @@ ignored_sign_behind text at n = go (sign text at) refl
         let y = then_forward _ _ multispace0_forward (λ u. no_digit_forward) text m tt n h in
         let x = y.0 in
         omega arith
+    go (dropped v m) e h = absurd (drops_never (and_then (multispace0 text m) (λ u k. no_digit text k)) tt n h)
     go none e h = let z : ◌≡◌ {A = ℕ} 0 1 = cc in omega arith
     go stop e h = let z : ◌≡◌ {A = ℕ} 0 1 = cc in omega arith
 
@@ -62,6 +67,7 @@ ignored_behind text at n = go (comment text at) refl
   where
     go : (a : Answer (Unit {0})) → comment text at ≡ a → or_else a (ignored_hyphen_or_plus text at) ≡ matched tt n → at < n
     go (matched tt m) e h = let z : m ≡ n = cc in comment_behind text at n (e ∙ h)
+    go (dropped tt m) e h = let z : ◌≡◌ {A = ℕ} 0 1 = cc in omega arith
     go none e h = ignored_sign_behind text at n h
     go stop e h = let z : ◌≡◌ {A = ℕ} 0 1 = cc in omega arith
 
@@ -105,6 +111,7 @@ enough_from text (suc k) (suc j) at h g = go (ignored text at) refl (enough_from
         let y = past_onward blank text n in
         let x = y.0 in
         f (past blank text n) (omega arith) (omega arith)
+    go (dropped tt n) e f = refl
     go none e f = refl
     go stop e f = refl
 

@@ -1,12 +1,14 @@
 -- What a reader answers, and how readers are put together. Document 01, 'Forms that must change': a reader answers a match
--- with the next place, no match, or a stop.
+-- with the next place, no match, or a stop. docs/requests/02-long-fractions.md: a match says whether a fraction lost a digit.
 use Rattle.std.specs.Prelude.{ℕ, List, Bool, true, false, Option, Some, None, Result, Ok, Err}
 use Rattle.primitive.specs.declared.Miss.{Miss}
 use Rattle.primitive.specs.declared.Miss.TheVariants.{NoMatch, Stop}
 
--- a match with its value and the next place; no match; or a stop, which no other reader may mend
+-- a match with its value and the next place; the same after a fraction that lost a digit; no match; or a stop, which no other reader may
+-- mend
 pub data Answer (A : Type 0) : Type 0 where
   matched : A → ℕ → Answer A
+  dropped : A → ℕ → Answer A
   none : Answer A
   stop : Answer A
 
@@ -19,15 +21,29 @@ abbrev pub if : {A : Type 0} → Bool → A → A → A
 if true a b = a
 if false a b = b
 
+-- an answer after a lost digit: of a match the loss is kept, and nothing else remembers it
+abbrev pub drops : {A : Type 0} → Answer A → Answer A
+drops (matched v n) = dropped v n
+drops (dropped v n) = dropped v n
+drops none = none
+drops stop = stop
+
+-- the same where a flag says whether a digit was lost
+abbrev pub carry : {A : Type 0} → Bool → Answer A → Answer A
+carry true a = drops a
+carry false a = a
+
 -- what follows a match
 abbrev pub and_then : {A B : Type 0} → Answer A → (A → ℕ → Answer B) → Answer B
 and_then (matched v n) f = f v n
+and_then (dropped v n) f = drops (f v n)
 and_then none f = none
 and_then stop f = stop
 
 -- what is tried where there was no match
 abbrev pub or_else : {A : Type 0} → Answer A → Answer A → Answer A
 or_else (matched v n) b = matched v n
+or_else (dropped v n) b = dropped v n
 or_else none b = b
 or_else stop b = stop
 
@@ -60,6 +76,10 @@ optional d p = p <|> pure d
 abbrev pub verify : {A : Type 0} → Bool → A → Reader A
 verify t v text at = if t (matched v at) none
 
+-- nothing is read, and the value is v; where a test passes a digit was lost on the way
+abbrev pub cut : {A : Type 0} → Bool → A → Reader A
+cut t v text at = carry t (matched v at)
+
 -- ---- the code's answers
 
 -- a value and where it ends
@@ -82,3 +102,14 @@ abbrev pub stop_answer : {A : Type 0} → Result (A × ℕ) Miss → Answer A
 stop_answer (Ok p) = matched p.0 p.1
 stop_answer (Err NoMatch) = none
 stop_answer (Err Stop) = stop
+
+-- a value, where it ends, and whether a digit was lost
+abbrev pub lossy_answer : {A : Type 0} → Option (A × ℕ × Bool) → Answer A
+lossy_answer (Some p) = carry p.2 (matched p.0 p.1)
+lossy_answer None = none
+
+-- the same where a stop can be met
+abbrev pub lossy_stop_answer : {A : Type 0} → Result (A × ℕ × Bool) Miss → Answer A
+lossy_stop_answer (Ok p) = carry p.2 (matched p.0 p.1)
+lossy_stop_answer (Err NoMatch) = none
+lossy_stop_answer (Err Stop) = stop

@@ -1,6 +1,6 @@
 -- Seconds with a fraction, as in items/epoch.rs.
-use Rattle.std.specs.Prelude.{ℕ, zero, suc, List, [], ◌∷◌}
-use Rattle.primitive.specs.Answer.{Reader, ◌>>=◌, ◌>>◌, ◌<|>◌, pure, optional}
+use Rattle.std.specs.Prelude.{ℕ, zero, suc, List, [], ◌∷◌, Bool, true, false, eqb, drop}
+use Rattle.primitive.specs.Answer.{Reader, if, ◌>>=◌, ◌>>◌, ◌<|>◌, pure, optional, cut}
 use Rattle.primitive.specs.Text.{char}
 use Rattle.primitive.specs.Primitive.{decimal, dec_uint, dec_uint_str}
 use Rattle.primitive.specs.declared.SecAndNsec.{SecAndNsec}
@@ -15,6 +15,15 @@ padded (suc k) (d ∷ ds) = d ∷ padded k ds
 unfoldable pub nanoseconds : List ℕ → ℕ
 nanoseconds ds = decimal (padded 9 ds)
 
+-- whether one of some digits is other than `0`, which is 48
+unfoldable pub nonzero : List ℕ → Bool
+nonzero [] = false
+nonzero (d ∷ ds) = if (eqb d 48) (nonzero ds) true
+
+-- whether a digit after the ninth is other than `0`: what the nanoseconds lose. The manual discards it; here a match tells of it.
+unfoldable pub lost : List ℕ → Bool
+lost ds = nonzero (drop 9 ds)
+
 unfoldable pub point_or_comma : Reader (Unit {0})
 point_or_comma = char "." <|> char ","
 
@@ -23,7 +32,7 @@ unfoldable pub fraction : Reader ℕ
 fraction = do
   point_or_comma
   ds ← dec_uint_str
-  pure (nanoseconds ds)
+  cut (lost ds) (nanoseconds ds)
 
 -- 29.9: "The number can contain an internal decimal point (either '.' or ',')". A point without a digit behind it is left unread.
 unfoldable pub sec_and_nsec : Reader (SecAndNsec ℕ)

@@ -2,7 +2,7 @@
 -- words that stand in a table.
 use Rattle.std.specs.Prelude.{ℕ, zero, suc, ◌+◌, ◌-◌, ◌*◌, ◌^◌, ◌≡◌, List, [], ◌∷◌, ◌++◌, Bool, true, false, ◌&&◌, length, get_or, drop, leb, eqb, Option, Some, None}
 use Prim.Native.String.{String}
-use Rattle.primitive.specs.Answer.{Answer, Reader, matched, none, stop, if, ◌>>=◌, ◌>>◌, ◌<|>◌, value, verify}
+use Rattle.primitive.specs.Answer.{Answer, Reader, matched, dropped, none, stop, if, ◌>>=◌, ◌>>◌, ◌<|>◌, value, verify}
 use Rattle.primitive.specs.Text.{lowered, bytes, blank, digit, letter, past, some, char}
 
 -- ---- the space between tokens
@@ -62,9 +62,10 @@ ignored_hyphen_or_plus = do
 unfoldable pub ignored : Reader (Unit {0})
 ignored = comment <|> ignored_hyphen_or_plus
 
--- where a match ends, taken further by f; without a match, the place itself
+-- where a match ends, taken further by f; without a match, the place itself. Nothing that is skipped has a fraction.
 abbrev pub behind : Answer (Unit {0}) → ℕ → (ℕ → ℕ) → ℕ
 behind (matched v n) at f = f n
+behind (dropped v n) at f = at
 behind none at f = at
 behind stop at f = at
 

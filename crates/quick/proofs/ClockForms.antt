@@ -19,7 +19,7 @@ use Rattle.times.specs.Offset.{in_range}
 use Rattle.times.specs.Time.{second, optional_second, meridiem}
 use Rattle.items.specs.Combined.{starts_with_meridiem}
 use Rattle.forms.proofs.Walk.{Reads, Fails, at_once}
-use Rattle.forms.proofs.Leaves.{head, plain, number_head, number_still, still, blanks, colon_else, sign_of, seconds_read, fractional_read}
+use Rattle.forms.proofs.Leaves.{head, plain, number_head, number_still, still, blanks, colon_else, sign_of, nine_lose_none, seconds_read, fractional_read}
 use Rattle.forms.proofs.Leaves.{signed as sign-still}
 use Rattle.forms.proofs.Times.{iso_read, second_read, no_second, correction_given, no_correction, no_sign_correction, colon_correction_read, sign_no_digit, meridiem_read}
 use Rattle.forms.proofs.TimeItems.{time_12}
@@ -171,7 +171,7 @@ module _ (s : List ℕ) (at ns h m : ℕ) (some : 16 ≤ length s) (room : at �
         rest = zone_text (gap ++ drop n (lowered s));
         seconds =
             rw (zone_written, g, ← e, ← fs.value, ← nine_digits (slice (at + 1) (at + 1 + 9) (lowered s)) nine)
-            (second_read (number_head _ d) (fractional_read false d (omega arith) fs.number (sign_no_digit west)) small');
+            (second_read (number_head _ d) (fractional_read false d (omega arith) fs.number (nine_lose_none (slice (at + 1) (at + 1 + 9) (lowered s)) (omega arith)) (sign_no_digit west)) small');
         gap = gap;
         blanks = b;
         correction = rw (← hs.value, ← ms.value) (correction_given (colon_correction_read west (still (sign-still west (number_head _ hs.number))) hs.number ms.number no_digit ok));

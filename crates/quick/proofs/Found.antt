@@ -8,7 +8,7 @@ use lib.Dec.{eqb, ltb, leb}
 use lib.ListN.{length, take, drop}
 use lib.Seq.{slice, drop-drop, length-slice}
 use borrow.Author.Tests.{eqb-true, ltb-true}
-use Rattle.primitive.specs.Answer.{Answer, matched, none, stop, if, and_then}
+use Rattle.primitive.specs.Answer.{Answer, matched, dropped, none, stop, if, and_then}
 use Rattle.primitive.specs.Text.{digit, run, past, some, starts, tag}
 use Rattle.primitive.specs.Primitive.{decimal, parse_uint, dec_uint_str, dec_uint}
 use Rattle.primitive.proofs.Rows.{all, halves, both}
@@ -16,6 +16,7 @@ use Rattle.primitive.proofs.Lowered.{clash}
 use Rattle.primitive.proofs.Limits.{slice_take}
 use Rattle.primitive.proofs.Forward.{dec_uint_forward}
 use Rattle.quick.specs.Rows.{Digits}
+use Rattle.primitive.proofs.Dropped.{drops_never}
 
 run_all : (p : ℕ → Bool) (l : List ℕ) → all p (take (run p l) l) ≡ true
 unfolding run
@@ -58,6 +59,7 @@ number_row max text at v n h e = go (some digit text at) refl e
         let row' : w ≡ slice at n text = rw (← there) row in
         let size = length-slice at n text (within h) in
         record { number = record { long = rw size (omega arith); digits = rw (← row') digits }; value = rw (← row') value; forward = forward; within = within h }
+    go (dropped w k) g f = absurd (drops_never (parse_uint max w text k) v n f)
     go none g f = let z : ◌≡◌ {A = ℕ} 0 1 = cc in absurd (clash z)
     go stop g f = let z : ◌≡◌ {A = ℕ} 0 1 = cc in absurd (clash z)
 

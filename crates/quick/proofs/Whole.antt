@@ -28,7 +28,7 @@ use Rattle.items.specs.Items.{ended, parse_items}
 use Rattle.items.specs.declared.Item.TheVariants as item
 use Rattle.extended.specs.Placed.{fine, placed}
 use Rattle.builder.specs.Building.{add_relative, build}
-use Rattle.reading.specs.Reading.{ascii, ascii_end, items_of, build_text, read_text}
+use Rattle.reading.specs.Reading.{ascii, ascii_end, items_of, build_parsed, build_text, read_text}
 use Rattle.reading.proofs.Steps.{ascii_low, all_read}
 use Rattle.quick.specs.Shifts.{Shift}
 use Rattle.quick.specs.Shapes.{Fronts, day_alone, combined, apart, Shaped, record_of, AtOnce}
@@ -37,7 +37,7 @@ use Rattle.builder.proofs.DateAndTime.{day_built, day_moved, combined_built, com
 
 -- the items of a text build what it builds
 listed : (text : List ℕ) {xs : List Item} (base : ExtendedDateTime) → parse_items text ≡ ended xs 0 0 → build_text text base ≡ build [] xs base
-unfolding build_text items_of
+unfolding build_text build_parsed items_of
 listed text base e = rw e
 
 module _ (base : ExtendedDateTime) (tb : test base ≡ accepted tt) (x : Shape) (tr : test (record_of x base.offset_seconds) ≡ accepted tt) where

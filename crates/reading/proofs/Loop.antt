@@ -9,29 +9,30 @@ use mathlib.Core.List.{List, [], ◌∷◌, ◌++◌}
 use lib.ListN.{length, length-append}
 use lib.Dec.{ltb}
 use borrow.Author.Tests.{lt-ltb, le-ltb}
-use Rattle.primitive.specs.Answer.{Answer, matched, none, stop, if}
+use Rattle.primitive.specs.Answer.{Answer, matched, dropped, none, stop, if, carry}
 use Rattle.primitive.specs.Text.{lowered}
 use Rattle.primitive.specs.Primitive.{space}
 use Rattle.primitive.proofs.Lowered.{length_lowered}
 use Rattle.extended.specs.declared.ExtendedDateTime.{ExtendedDateTime}
-use Rattle.items.specs.Items.{parse_item, ended, further, items_from, parse_items}
+use Rattle.items.specs.Items.{parse_item, ended, further, kept, items_from, parse_items}
 use Rattle.items.specs.declared.Item.{Item}
 use Rattle.extended.specs.Placed.{Placed, fine, refusal, ◌>>=◌}
 use Rattle.rules.specs.Rules.{empty, gather, heed, relative_of, relatives}
 use Rattle.rules.specs.declared.DateTimeBuilder.{DateTimeBuilder}
 use Rattle.rules.proofs.Order.{rules_more, relatives_more}
 use Rattle.builder.specs.Building.{built, build}
-use Rattle.reading.specs.Reading.{items_of, build_text}
+use Rattle.reading.specs.Reading.{items_of, build_parsed, build_text}
 
 -- how it goes on behind a place where an item is tried
 abbrev go_on : Answer Item → ℕ → (Item → ℕ → Placed ExtendedDateTime) → Placed ExtendedDateTime
 go_on (matched v n) at f = f v n
+go_on (dropped v n) at f = refusal 22 at
 go_on none at f = refusal 3 at
 go_on stop at f = refusal 4 at
 
 -- the answer, with room for so many more items behind those of which p and rs were made
 pub rest : List ℕ → ExtendedDateTime → ℕ → ℕ → Placed DateTimeBuilder → List Relative → ℕ → Placed ExtendedDateTime
-rest text base zero i p rs at = if (ltb (space text at) (length text)) (go_on (parse_item text at) at (λ v n. refusal 1 0)) (built p rs base)
+rest text base zero i p rs at = if (ltb (space text at) (length text)) (go_on (kept (parse_item text at)) at (λ v n. refusal 1 0)) (built p rs base)
 rest text base (suc room) i p rs at =
     if (ltb (space text at) (length text)) (go_on (parse_item text at) at (λ v n. rest text base room (suc i) (heed [] i v p) (rs ++ relative_of v) n)) (built p rs base)
 
@@ -45,26 +46,28 @@ more text base room xs x n v e =
 
 -- the definition reads all items first
 whole : (text : List ℕ) (base : ExtendedDateTime) (room : ℕ) (xs : List Item) (at : ℕ) →
-    (items_of (items_from room xs text at) >>= (λ ys. build [] ys base)) ≡ rest text base room (length xs) (gather [] 0 empty xs) (relatives xs) at
+    (items_of (items_from parse_item room xs text at) >>= (λ ys. build [] ys base)) ≡ rest text base room (length xs) (gather [] 0 empty xs) (relatives xs) at
 unfolding rest items_from items_of build
-whole text base zero xs at = by (ltb (space text at) (length text)) (parse_item text at)
+whole text base zero xs at = by (ltb (space text at) (length text)) (kept (parse_item text at))
   where
     by : (t : Bool) (a : Answer Item) →
         (items_of (if t (further a xs at (λ v n. ended xs 1 0)) (ended xs 0 0)) >>= (λ ys. build [] ys base)) ≡ if t (go_on a at (λ v n. refusal 1 0)) (built (gather [] 0 empty xs) (relatives xs) base)
     by false a = refl
     by true (matched v n) = refl
+    by true (dropped v n) = refl
     by true none = refl
     by true stop = refl
 whole text base (suc room) xs at = by (λ v n. more text base room xs v n _ (whole text base room (xs ++ (v ∷ [])) n)) (ltb (space text at) (length text)) (parse_item text at)
   where
     by :
         ((v : Item) (n : ℕ) →
-        (items_of (items_from room (xs ++ (v ∷ [])) text n) >>= (λ ys. build [] ys base)) ≡ rest text base room (suc (length xs)) (heed [] (length xs) v (gather [] 0 empty xs)) (relatives xs ++ relative_of v) n) →
+        (items_of (items_from parse_item room (xs ++ (v ∷ [])) text n) >>= (λ ys. build [] ys base)) ≡ rest text base room (suc (length xs)) (heed [] (length xs) v (gather [] 0 empty xs)) (relatives xs ++ relative_of v) n) →
         (t : Bool) (a : Answer Item) →
-        (items_of (if t (further a xs at (λ v n. items_from room (xs ++ (v ∷ [])) text n)) (ended xs 0 0)) >>= (λ ys. build [] ys base))
+        (items_of (if t (further a xs at (λ v n. items_from parse_item room (xs ++ (v ∷ [])) text n)) (ended xs 0 0)) >>= (λ ys. build [] ys base))
         ≡ if t (go_on a at (λ v n. rest text base room (suc (length xs)) (heed [] (length xs) v (gather [] 0 empty xs)) (relatives xs ++ relative_of v) n)) (built (gather [] 0 empty xs) (relatives xs) base)
     by later false a = refl
     by later true (matched v n) = later v n
+    by later true (dropped v n) = refl
     by later true none = refl
     by later true stop = refl
 
@@ -75,23 +78,23 @@ pub left : List ℕ → ExtendedDateTime → ℕ → Placed DateTimeBuilder → 
 left text base count p rs at = rest text base (64 - count) count p rs at
 
 pub left_start : (text : List ℕ) (base : ExtendedDateTime) (p : Placed DateTimeBuilder) (rs : List Relative) → p ≡ fine empty → rs ≡ [] → left text base 0 p rs 0 ≡ build_text text base
-unfolding left build_text parse_items relatives gather
+unfolding left build_text build_parsed parse_items relatives gather
 left_start text base p rs e k = rw (e, k) (sym (whole text base 64 [] 0))
 
--- what an item that was read leads to
-behind : List ℕ → ExtendedDateTime → ℕ → ℕ → Placed DateTimeBuilder → List Relative → Item → ℕ → Placed ExtendedDateTime
-behind text base zero i p rs v n = refusal 1 0
-behind text base (suc room) i p rs v n = rest text base room (suc i) (heed [] i v p) (rs ++ relative_of v) n
+-- where an item is tried: of the 65th it is not asked whether a digit was lost
+turn : List ℕ → ExtendedDateTime → ℕ → ℕ → Placed DateTimeBuilder → List Relative → ℕ → Answer Item → Placed ExtendedDateTime
+turn text base zero i p rs at a = go_on (kept a) at (λ v n. refusal 1 0)
+turn text base (suc room) i p rs at a = go_on a at (λ v n. rest text base room (suc i) (heed [] i v p) (rs ++ relative_of v) n)
 
 one_turn : (text : List ℕ) (base : ExtendedDateTime) (room i : ℕ) (p : Placed DateTimeBuilder) (rs : List Relative) (at : ℕ) →
-    rest text base room i p rs at ≡ if (ltb (space text at) (length text)) (go_on (parse_item text at) at (behind text base room i p rs)) (built p rs base)
-unfolding rest behind
+    rest text base room i p rs at ≡ if (ltb (space text at) (length text)) (turn text base room i p rs at (parse_item text at)) (built p rs base)
+unfolding rest turn
 one_turn text base zero i p rs at = refl
 one_turn text base (suc room) i p rs at = refl
 
 module _ (s : List ℕ) (base : ExtendedDateTime) (count : ℕ) (p : Placed DateTimeBuilder) (rs : List Relative) (at : ℕ) (v : Placed ExtendedDateTime)
     (inv : left (lowered s) base count p rs at ≡ v) (start : ℕ) (here : start ≡ space (lowered s) at) where
-  opened : if (ltb start (length s)) (go_on (parse_item (lowered s) at) at (behind (lowered s) base (64 - count) count p rs)) (built p rs base) ≡ v
+  opened : if (ltb start (length s)) (turn (lowered s) base (64 - count) count p rs at (parse_item (lowered s) at)) (built p rs base) ≡ v
   unfolding left
   opened = rw (here, ← length_lowered s) (sym (one_turn (lowered s) base (64 - count) count p rs at) ∙ inv)
 
@@ -99,22 +102,42 @@ module _ (s : List ℕ) (base : ExtendedDateTime) (count : ℕ) (p : Placed Date
   left_end h r k = rw k (rw (le-ltb start (length s) h) at opened)
 
   module _ (h : start < length s) where
-    read : go_on (parse_item (lowered s) at) at (behind (lowered s) base (64 - count) count p rs) ≡ v
+    read : turn (lowered s) base (64 - count) count p rs at (parse_item (lowered s) at) ≡ v
     read = rw (lt-ltb start (length s) h) at opened
 
     pub left_unread : none ≡ parse_item (lowered s) at → refusal 3 at ≡ v
-    left_unread e = rw (← e) at read
+    unfolding turn
+    left_unread e = sym (for_any (64 - count)) ∙ (rw (← e) at read)
+      where
+        for_any : (room : ℕ) → turn (lowered s) base room count p rs at none ≡ refusal 3 at
+        for_any zero = refl
+        for_any (suc room) = refl
 
     pub left_stopped : stop ≡ parse_item (lowered s) at → refusal 4 at ≡ v
-    left_stopped e = rw (← e) at read
+    unfolding turn
+    left_stopped e = sym (for_any (64 - count)) ∙ (rw (← e) at read)
+      where
+        for_any : (room : ℕ) → turn (lowered s) base room count p rs at stop ≡ refusal 4 at
+        for_any zero = refl
+        for_any (suc room) = refl
 
-    module _ (x : Item) (n : ℕ) (e : matched x n ≡ parse_item (lowered s) at) where
+    module _ (x : Item) (n : ℕ) (lossy : Bool) (e : carry lossy (matched x n) ≡ parse_item (lowered s) at) where
       pub left_full : count ≡ 64 → refusal 1 0 ≡ v
-      unfolding behind
-      left_full c = let z : 64 - count ≡ 0 = omega arith in rw (← e, z) at read
+      unfolding turn
+      left_full c = let z : 64 - count ≡ 0 = omega arith in full lossy (rw (← e, z) at read)
+        where
+          full : (d : Bool) → turn (lowered s) base 0 count p rs at (carry d (matched x n)) ≡ v → refusal 1 0 ≡ v
+          full true f = f
+          full false f = f
 
-      pub left_next : (count ≡ 64 → ⊥) → count ≤ 64 → (q : Placed DateTimeBuilder) → q ≡ heed [] count x p → (ys : List Relative) → ys ≡ rs ++ relative_of x → left (lowered s) base (count + 1) q ys n ≡ v
-      unfolding behind left
-      left_next d l q f ys g =
-          let z : 64 - count ≡ suc (64 - suc count) = omega arith in
-          rw (add-one count, f, g) (rw (← e, z) at read)
+      module _ (d : count ≡ 64 → ⊥) (l : count ≤ 64) where
+        one_more : 64 - count ≡ suc (64 - suc count)
+        one_more = omega arith
+
+        pub left_dropped : lossy ≡ true → refusal 22 at ≡ v
+        unfolding turn
+        left_dropped t = rw (← e, one_more, t) at read
+
+        pub left_next : lossy ≡ false → (q : Placed DateTimeBuilder) → q ≡ heed [] count x p → (ys : List Relative) → ys ≡ rs ++ relative_of x → left (lowered s) base (count + 1) q ys n ≡ v
+        unfolding turn left
+        left_next t q f ys g = rw (add-one count, f, g) (rw (← e, one_more, t) at read)

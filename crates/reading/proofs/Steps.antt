@@ -15,7 +15,7 @@ use Rattle.extended.specs.Outcome.{accepted, refused}
 use Rattle.extended.specs.Extended.{test}
 use Rattle.extended.specs.declared.ExtendedDateTime.{ExtendedDateTime}
 use Rattle.extended.specs.Placed.{Placed, refusal}
-use Rattle.reading.specs.Reading.{ascii, ascii_end, build_text, read_lowered, read_text}
+use Rattle.reading.specs.Reading.{ascii, ascii_end, build_text, read_parsed, read_text}
 
 -- ---- bytes below 128
 
@@ -36,21 +36,21 @@ ascii_low b h = go (leb 65 b) (leb b 90) refl
 
 module _ (s : List ℕ) (base : ExtendedDateTime) where
   pub base_refused : (n : ℕ) → refused n ≡ test base → refusal n 0 ≡ read_text s base
-  unfolding read_text read_lowered
+  unfolding read_text read_parsed build_text
   base_refused n e = rw (← e)
 
   module _ (u : Unit {0}) (e : accepted u ≡ test base) where
     pub oversize : 4096 < length s → refusal 1 0 ≡ read_text s base
-    unfolding read_text read_lowered
+    unfolding read_text read_parsed build_text
     oversize l = rw (← e, length_lowered s, lt-leb (length s) 4096 l)
 
     module _ (l : length s ≤ 4096) (end : ℕ) (g : end ≡ ascii_end (lowered s)) where
       pub foreign : end < length s → refusal 2 end ≡ read_text s base
-      unfolding read_text read_lowered
+      unfolding read_text read_parsed build_text
       foreign k = rw (← e, length_lowered s, le-leb (length s) 4096 l, ← g, lt-leb (length s) end k)
 
       pub all_read : length s ≤ end → (r : Placed ExtendedDateTime) → r ≡ build_text (lowered s) base → r ≡ read_text s base
-      unfolding read_text read_lowered
+      unfolding read_text read_parsed build_text
       all_read k r q = rw (← e, length_lowered s, le-leb (length s) 4096 l, ← g, le-leb (length s) end k) q
 
 pub ruleset steps = (base_refused, oversize, foreign, all_read, ascii_low, ascii_high, rules)

@@ -6,7 +6,7 @@ use Rattle.extended.specs.Extended.{test}
 use Rattle.extended.specs.declared.ExtendedDateTime.{ExtendedDateTime}
 use Rattle.primitive.specs.Answer.{if}
 use Rattle.primitive.specs.Text.{lowered, past}
-use Rattle.items.specs.Items.{Parsed, parse_items}
+use Rattle.items.specs.Items.{Parsed, parse_items, rust_items}
 use Rattle.extended.specs.Placed.{Placed, fine, refusal, placed, ◌>>=◌, ◌>>◌}
 use Rattle.builder.specs.Building.{build}
 
@@ -23,18 +23,25 @@ unfoldable pub items_of : Parsed → Placed (List Item)
 items_of p = if (eqb p.number 0) (fine p.items) (refusal p.number p.place)
 
 -- "items left to right; the builder's rules in item order; then building". No text has an item that comes by packet only.
-unfoldable pub build_text : List ℕ → ExtendedDateTime → Placed ExtendedDateTime
-build_text text base = do
-  xs ← items_of (parse_items text)
+unfoldable pub build_parsed : Parsed → ExtendedDateTime → Placed ExtendedDateTime
+build_parsed p base = do
+  xs ← items_of p
   build [] xs base
 
+unfoldable pub build_text : List ℕ → ExtendedDateTime → Placed ExtendedDateTime
+build_text text base = build_parsed (parse_items text) base
+
 -- "a record or base lent in, as `new` tests it; length; foreign bytes": 2 stands at the first foreign byte
-unfoldable pub read_lowered : List ℕ → ExtendedDateTime → Placed ExtendedDateTime
-read_lowered text base = do
+unfoldable pub read_parsed : Parsed → List ℕ → ExtendedDateTime → Placed ExtendedDateTime
+read_parsed p text base = do
   placed 0 (test base)
   placed 0 (check (leb (length text) 4096) 1)
   placed (ascii_end text) (check (leb (length text) (ascii_end text)) 2)
-  build_text text base
+  build_parsed p base
 
 unfoldable pub read_text : List ℕ → ExtendedDateTime → Placed ExtendedDateTime
-read_text text base = read_lowered (lowered text) base
+read_text text base = read_parsed (parse_items (lowered text)) (lowered text) base
+
+-- the Rust's reading, which gives no 22: of each other text it is the same (proofs/Theorems.antt, `same_text`)
+unfoldable pub rust_text : List ℕ → ExtendedDateTime → Placed ExtendedDateTime
+rust_text text base = read_parsed (rust_items (lowered text)) (lowered text) base

@@ -54,8 +54,9 @@ fn is_ascii(byte: u8) -> bool
     byte < 128
 }
 
-// The record of a text's items, 64 at most: 1 where a 65th is read, 3 where no reader matches and 4 where one stops, these two at the end
-// of the item before. Each item is heeded as it is read, and none is kept but the relative ones; a broken rule is answered behind the last.
+// The record of a text's items, 64 at most: 1 where a 65th is read, 3 where no reader matches, 4 where one stops and 22 where an item lost
+// a digit, these three at the end of the item before. Each item is heeded as it is read, and none is kept but the relative ones; a broken
+// rule is answered after the last.
 fn build_text(text: &[u8], base: ExtendedDateTime) -> Result<ExtendedDateTime, PlacedRefusal>
     ensures { placed_of result ≡ build_text (lowered text.now) base }
 {
@@ -65,9 +66,12 @@ fn build_text(text: &[u8], base: ExtendedDateTime) -> Result<ExtendedDateTime, P
     // a step is as long as the item that was read, so there is no range
     while spaces::space(text, i) < text.len() {
         match item_forms::parse_item(text, i) {
-            Ok((item, next)) => {
+            Ok((item, next, dropped)) => {
                 if count == MOST_ITEMS {
                     return Err(Refusal::Oversize.at(0));
+                }
+                if dropped {
+                    return Err(Refusal::Fraction.at(i));
                 }
                 heeded.heed(&[], item, count);
                 count += 1;

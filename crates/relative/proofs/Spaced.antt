@@ -4,7 +4,7 @@ use mathlib.Core.Path.{◌≡◌, refl}
 use mathlib.Core.List.{List}
 use mathlib.Core.Bool.{Bool, false}
 use lib.IntN.{ℤ, pos}
-use Rattle.primitive.specs.Answer.{Answer, matched, none, stop, and_then, or_else}
+use Rattle.primitive.specs.Answer.{Answer, matched, dropped, none, stop, and_then, or_else}
 use Rattle.primitive.specs.Primitive.{sign, space, plus_or_minus}
 use Rattle.primitive.specs.Ordinal.{text_ordinal, number_ordinal, ordinal}
 use Rattle.primitive.proofs.Fronts.{space_again}
@@ -17,6 +17,7 @@ module _ (text : List ℕ) (at : ℕ) where
     where
       go : (a : Answer Bool) → and_then (or_else a (matched false (space text at))) (λ v n. signed_seconds v text n) ≡ and_then (or_else a (matched false at)) (λ v n. signed_seconds v text n)
       go (matched v n) = refl
+      go (dropped v n) = refl
       go none = rw (space_again text at)
       go stop = refl
 
@@ -30,6 +31,7 @@ module _ (text : List ℕ) (at : ℕ) where
     where
       go : (a : Answer ℤ) → and_then (or_else a (matched (pos 1) (space text at))) (λ n m. displaced n text m) ≡ and_then (or_else a (matched (pos 1) at)) (λ n m. displaced n text m)
       go (matched v n) = refl
+      go (dropped v n) = refl
       go none = rw (space_again text at)
       go stop = refl
 

@@ -1,12 +1,13 @@
 // What relative items are, as in items/relative.rs: a displacement from the date that other items give. Here are seconds, and `ago` or
 // `hence`, which may stand behind each item.
 //
-// Seconds may have a fraction; their sum with a sign is rounded down, so that the nanoseconds are never below 0.
+// Seconds may have a fraction; their sum with a sign is rounded down, so that the nanoseconds are never below 0. Their reader says too
+// whether the fraction lost a digit.
 
 #![tactic(auto)]
 
 ghost use Rattle.std.specs.Prelude.{◌≡◌, ◌<◌, ◌^◌, not};
-ghost use Rattle.primitive.specs.Answer.{matched, if, answer_of, place_answer};
+ghost use Rattle.primitive.specs.Answer.{matched, if, place_answer, lossy_answer};
 ghost use Rattle.primitive.specs.Text.{lowered};
 ghost use Rattle.relative.specs.Relative.{seconds, signed_seconds, second_word, rounded, direction};
 
@@ -34,8 +35,8 @@ impl Default for Relative {
 
 // Seconds in digits, with a sign or without one.
 #[tactic(auto, unfolding(crate::specs::Relative::seconds))]
-pub fn seconds(s: &[u8], at: usize) -> Option<(Relative, usize)>
-    ensures { answer_of result ≡ seconds (lowered s.now) at }
+pub fn seconds(s: &[u8], at: usize) -> Option<(Relative, usize, bool)>
+    ensures { lossy_answer result ≡ seconds (lowered s.now) at }
 {
     let (negative, next) = spaces::plus_or_minus(s, at).unwrap_or((false, at));
     signed_seconds(s, next, negative)
@@ -43,16 +44,16 @@ pub fn seconds(s: &[u8], at: usize) -> Option<(Relative, usize)>
 
 // The same with the sign that was read before it. Seconds that no i64 holds are no match.
 #[tactic(auto, using(crate::proofs::Units::turned), unfolding(crate::specs::Relative::signed_seconds))]
-fn signed_seconds(s: &[u8], at: usize, negative: bool) -> Option<(Relative, usize)>
-    ensures { answer_of result ≡ signed_seconds negative (lowered s.now) at }
+fn signed_seconds(s: &[u8], at: usize, negative: bool) -> Option<(Relative, usize, bool)>
+    ensures { lossy_answer result ≡ signed_seconds negative (lowered s.now) at }
 {
-    let (v, at) = epoch::sec_and_nsec(s, spaces::space(s, at))?;
+    let (v, at, dropped) = epoch::sec_and_nsec(s, spaces::space(s, at))?;
     let at = second_word(s, at)?;
     let (ago, at) = direction(s, at);
     if MOST_SECONDS < v.sec {
         return None;
     }
-    Some((rounded(turned(ago, negative), v), at))
+    Some((rounded(turned(ago, negative), v), at, dropped))
 }
 
 const SECOND_WORDS: [(&str, ()); 4] = [("seconds", ()), ("second", ()), ("sec", ()), ("secs", ())];

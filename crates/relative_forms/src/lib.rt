@@ -10,7 +10,7 @@ pub mod unit;
 
 ghost use Rattle.std.specs.Prelude.{◌≡◌, ℕ, ◌<◌, ◌^◌, List, neg_ℤ};
 ghost use Rattle.std.specs.Int.Signed.{mag};
-ghost use Rattle.primitive.specs.Answer.{if, answer_of};
+ghost use Rattle.primitive.specs.Answer.{if, answer_of, lossy_answer};
 ghost use Rattle.primitive.specs.Text.{lowered};
 ghost use Rattle.relative.specs.Relative.{parse, displacement, displaced, in_unit, stripped};
 
@@ -18,10 +18,13 @@ use relative::Relative;
 use unit::Unit;
 
 #[tactic(auto, unfolding(relative::specs::Relative::parse))]
-pub fn parse(s: &[u8], at: usize) -> Option<(Relative, usize)>
-    ensures { answer_of result ≡ parse (lowered s.now) at }
+pub fn parse(s: &[u8], at: usize) -> Option<(Relative, usize, bool)>
+    ensures { lossy_answer result ≡ parse (lowered s.now) at }
 {
-    relative::seconds(s, at).or_else(|| displacement(s, at))
+    relative::seconds(s, at).or_else(|| {
+        let (relative, next) = displacement(s, at)?;
+        Some((relative, next, false))
+    })
 }
 
 // A unit of time with an ordinal in front of it, or 1 where there is none. An ordinal that was read is kept.

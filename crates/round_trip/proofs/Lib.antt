@@ -3,5 +3,8 @@ pub mod Built
 pub mod Texts
 pub mod Places
 pub mod Refusals
+pub mod BuildRefusals
+pub mod TextRefusals
 pub mod Accepted
 pub mod Theorems
+pub mod LongFractions

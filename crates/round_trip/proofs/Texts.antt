@@ -25,7 +25,7 @@ use Rattle.builder.specs.Building.{build}
 use Rattle.writer.specs.Writer.{digits, whole_minutes, text_of}
 use Rattle.writer.proofs.Digits.{all_join, all_also, digits_value, digits_number, digits_length, width_most}
 use Rattle.writer.proofs.Texts.{text_long, text_ascii, text_lowered}
-use Rattle.reading.specs.Reading.{ascii, ascii_end, items_of, build_text, read_lowered, read_text}
+use Rattle.reading.specs.Reading.{ascii, ascii_end, items_of, build_parsed, read_parsed, read_text}
 use Rattle.round_trip.proofs.Written.{digits_of, text_is, both_of, sound, item_is}
 use Rattle.round_trip.proofs.Built.{built_alone, built_moved}
 
@@ -57,7 +57,7 @@ shift_length minus n h = simp (length-append, digits_length) (omega (arith, widt
 
 -- a text that passes the first tests is read by its items
 passes : (l : List ℕ) (base : ExtendedDateTime) (xs : List Item) → test base ≡ accepted tt → lowered l ≡ l → length l ≤ 4096 → all (λ b. ltb b 128) l ≡ true → parse_items l ≡ ended xs 0 0 → read_text l base ≡ build [] xs base
-unfolding read_text read_lowered build_text items_of
+unfolding read_text read_parsed build_parsed items_of
 passes l base xs tb low short small read = rw (low, tb, le-leb (length l) 4096 short, ascii_all l small, le-leb (length l) (length l) (omega arith), read)
 
 module _ (base r : ExtendedDateTime) (tb : test base ≡ accepted tt) (tr : test r ≡ accepted tt) (whole : whole_minutes r.offset_seconds ≡ true) where

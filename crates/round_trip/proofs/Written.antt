@@ -23,6 +23,7 @@ use Rattle.times.specs.Offset.{in_range, total_seconds}
 use Rattle.times.specs.declared.offset.Offset.{Offset}
 use Rattle.items.specs.declared.combined.DateTime.{DateTime}
 use Rattle.items.specs.declared.Item.TheVariants as item
+use Rattle.forms.proofs.Leaves.{nine_lose_none}
 use Rattle.forms.proofs.TwoItems.{Digits, Sound, moment_text, moment_item, long_year, nine_digits}
 use Rattle.writer.specs.Writer.{fixed, padded, negative, whole_minutes, text_of}
 use Rattle.writer.proofs.Digits.{fixed_length, fixed_value, fixed_number, padded_value, padded_number, year_length}
@@ -141,6 +142,7 @@ module _ (r : ExtendedDateTime) (t : test r ≡ accepted tt) where
     minute = fixed_number 2 r.minute (omega arith);
     second = fixed_number 2 r.second (omega arith);
     fraction = fixed_number 9 r.nanosecond (omega arith);
+    fraction_kept = nine_lose_none (fixed 9 r.nanosecond) (omega (arith, fixed_length 9 r.nanosecond));
     zone_hours = fixed_number 2 (far / 3600) (omega arith);
     zone_minutes = fixed_number 2 (far % 3600 / 60) (omega arith);
     hour_small = rw hour_value (omega (arith, a.hour_high));

@@ -6,7 +6,7 @@ use Rattle.relative.specs.declared.Relative.{Relative}
 use Rattle.std.specs.Prelude.{ℕ, suc, ◌+◌, ◌-◌, Bool, false, not, ◌&&◌, ◌||◌, List, [], ◌∷◌, ◌++◌, leb, eqb}
 use Rattle.std.proofs.Math.Seq.{slice}
 use Rattle.extended.specs.Outcome.{Outcome, accepted, refused, check, ◌>>=◌, ◌>>◌}
-use Rattle.primitive.specs.Answer.{Answer, matched, none, stop, if}
+use Rattle.primitive.specs.Answer.{Answer, matched, dropped, none, stop, if}
 use Rattle.primitive.specs.Primitive.{parse_uint}
 use Rattle.dates.specs.Year.{year_from_str}
 use Rattle.dates.specs.declared.date.Date.{Date}
@@ -71,9 +71,10 @@ set_date_time b v = do
 
 -- ---- pure numbers. 29.8: "The precise interpretation of a pure decimal number depends on the context in the date string."
 
--- what a reader of digits answers, or the number of its refusal
+-- what a reader of digits answers, or the number of its refusal. Such a reader meets no fraction.
 abbrev pub wanted : ℕ → Answer ℕ → Outcome ℕ
 wanted n (matched v at) = accepted v
+wanted n (dropped v at) = refused n
 wanted n none = refused n
 wanted n stop = refused n
 

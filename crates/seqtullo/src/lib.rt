@@ -121,7 +121,7 @@ pub extern "C" fn seqtullo_days_in_month(year: u32, month: u8) -> u8
     extended::days_in_month(year, month)
 }
 
-// Refusals from 2 to 8 have a place: a byte's index for 2 to 4, an item's for 5 to 8.
+// Refusals from 2 to 8 and 22 have a place: a byte's index for 2 to 4 and 22, an item's for 5 to 8.
 #[tactic(auto, unfolding(hosts::specs::Hosts::placed_answer))]
 fn placed_answer(read: Result<ExtendedDateTime, PlacedRefusal>) -> Answer
     requires { place_of (placed_of read) ≤ 4096 }

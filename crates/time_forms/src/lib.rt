@@ -7,7 +7,7 @@
 #![tactic(auto)]
 
 ghost use Rattle.std.specs.Prelude.{◌≡◌, ◌+◌, ◌%◌};
-ghost use Rattle.primitive.specs.Answer.{matched, if, answer_of, stop_answer};
+ghost use Rattle.primitive.specs.Answer.{matched, if, carry, answer_of, stop_answer, lossy_answer, lossy_stop_answer};
 ghost use Rattle.primitive.specs.Text.{lowered};
 ghost use Rattle.times.specs.Time.{below, second, optional_second, optional_minute, optional_correction, offset_behind, minutes_behind, iso, meridiem, am_pm_time, parse};
 
@@ -15,9 +15,18 @@ use primitive::{Miss, SecAndNsec};
 use times::offset::Offset;
 use times::time::Time;
 
+// The seconds of a time, where they end, and whether their fraction lost a digit: in 16 bytes, where a tuple takes 24.
+#[derive(Clone, Copy)]
+struct Seconds {
+    second: u8,
+    dropped: bool,
+    nanosecond: u32,
+    next: usize,
+}
+
 #[tactic(auto, using(times::proofs::Times::times), unfolding(times::specs::Time::parse))]
-pub fn parse(s: &[u8], at: usize) -> Result<(Time, usize), Miss>
-    ensures { stop_answer result ≡ parse (lowered s.now) at }
+pub fn parse(s: &[u8], at: usize) -> Result<(Time, usize, bool), Miss>
+    ensures { lossy_stop_answer result ≡ parse (lowered s.now) at }
 {
     match am_pm_time(s, at) {
         Err(Miss::NoMatch) => iso(s, at),
@@ -27,8 +36,8 @@ pub fn parse(s: &[u8], at: usize) -> Result<(Time, usize), Miss>
 
 // A time in 24 hours: an hour, and minutes behind a colon or else an offset.
 #[tactic(auto, using(times::proofs::Hours::hours), unfolding(times::specs::Time::hour24))]
-pub fn iso(s: &[u8], at: usize) -> Result<(Time, usize), Miss>
-    ensures { stop_answer result ≡ iso (lowered s.now) at }
+pub fn iso(s: &[u8], at: usize) -> Result<(Time, usize, bool), Miss>
+    ensures { lossy_stop_answer result ≡ iso (lowered s.now) at }
 {
     let (hour, at) = below(s, at, 24).ok_or(Miss::NoMatch)?;
     match spaces::colon(s, at) {
@@ -38,8 +47,8 @@ pub fn iso(s: &[u8], at: usize) -> Result<(Time, usize), Miss>
 }
 
 // The offset behind an hour.
-fn hour_offset(s: &[u8], at: usize, hour: u8) -> Result<(Time, usize), Miss>
-    ensures { stop_answer result ≡ offset_behind hour (lowered s.now) at }
+fn hour_offset(s: &[u8], at: usize, hour: u8) -> Result<(Time, usize, bool), Miss>
+    ensures { lossy_stop_answer result ≡ offset_behind hour (lowered s.now) at }
 {
     let (offset, next) = offsets::timezone_offset(s, at)?;
     let time = Time {
@@ -49,25 +58,25 @@ fn hour_offset(s: &[u8], at: usize, hour: u8) -> Result<(Time, usize), Miss>
         nanosecond: 0,
         offset: Some(offset),
     };
-    Ok((time, next))
+    Ok((time, next, false))
 }
 
 // The minutes behind an hour and a colon, then seconds or none, then a correction or none.
 #[tactic(auto, unfolding(times::specs::Time::minute))]
-fn clock(s: &[u8], at: usize, hour: u8) -> Result<(Time, usize), Miss>
-    ensures { stop_answer result ≡ minutes_behind hour (lowered s.now) at }
+fn clock(s: &[u8], at: usize, hour: u8) -> Result<(Time, usize, bool), Miss>
+    ensures { lossy_stop_answer result ≡ minutes_behind hour (lowered s.now) at }
 {
     let (minute, at) = below(s, at, 60).ok_or(Miss::NoMatch)?;
-    let (v, at) = optional_second(s, at);
-    let (offset, next) = optional_correction(s, at)?;
+    let v = optional_second(s, at);
+    let (offset, next) = optional_correction(s, v.next)?;
     let time = Time {
         hour,
         minute,
-        second: v.sec,
-        nanosecond: v.nsec,
+        second: v.second,
+        nanosecond: v.nanosecond,
         offset,
     };
-    Ok((time, next))
+    Ok((time, next, v.dropped))
 }
 
 // A correction or none; one that stops is not mended.
@@ -84,24 +93,24 @@ fn optional_correction(s: &[u8], at: usize) -> Result<(Option<Offset>, usize), M
 
 // A time that ends with am or pm.
 #[tactic(auto, using(times::proofs::Times::times), unfolding(times::specs::Time::am_pm_time, times::specs::Time::hour12))]
-fn am_pm_time(s: &[u8], at: usize) -> Result<(Time, usize), Miss>
-    ensures { stop_answer result ≡ am_pm_time (lowered s.now) at }
+fn am_pm_time(s: &[u8], at: usize) -> Result<(Time, usize, bool), Miss>
+    ensures { lossy_stop_answer result ≡ am_pm_time (lowered s.now) at }
 {
     let (hour, at) = below(s, at, 13).ok_or(Miss::NoMatch)?;
     let (minute, at) = optional_minute(s, at);
-    let (v, at) = optional_second(s, at);
-    let (pm, next) = meridiem(s, at).ok_or(Miss::NoMatch)?;
+    let v = optional_second(s, at);
+    let (pm, next) = meridiem(s, v.next).ok_or(Miss::NoMatch)?;
     if hour == 0 {
         return Err(Miss::Stop);
     }
     let time = Time {
         hour: hour_of(hour, pm),
         minute,
-        second: v.sec,
-        nanosecond: v.nsec,
+        second: v.second,
+        nanosecond: v.nanosecond,
         offset: None,
     };
-    Ok((time, next))
+    Ok((time, next, v.dropped))
 }
 
 // The hour of the day: 12 comes before 1, in each half.
@@ -111,16 +120,17 @@ fn hour_of(hour: u8, pm: bool) -> u8
     if pm { hour % 12 + 12 } else { hour % 12 }
 }
 
-// am or pm, behind space.
+// am or pm, after space.
 #[tactic(auto, using(times::proofs::Times::times), unfolding(times::specs::Time::meridiem, primitive::specs::Text::bytes))]
 fn meridiem(s: &[u8], at: usize) -> Option<(bool, usize)>
     ensures { answer_of result ≡ meridiem (lowered s.now) at }
 {
-    let am = spaces::spaced_tag(s, at, b"am").or_else(|| spaces::spaced_tag(s, at, b"a.m."));
+    let start = spaces::space(s, at);
+    let am = primitive::tag(s, start, b"am").or_else(|| primitive::tag(s, start, b"a.m."));
     if let Some(next) = am {
         return Some((false, next));
     }
-    let next = spaces::spaced_tag(s, at, b"pm").or_else(|| spaces::spaced_tag(s, at, b"p.m."))?;
+    let next = primitive::tag(s, start, b"pm").or_else(|| primitive::tag(s, start, b"p.m."))?;
     Some((true, next))
 }
 
@@ -134,15 +144,25 @@ fn optional_minute(s: &[u8], at: usize) -> (u8, usize)
         .unwrap_or((0, at))
 }
 
-// Seconds behind a colon, or 0 where there are none.
+// Seconds after a colon, or 0 where there are none.
 #[tactic(auto, using(times::proofs::Times::times), unfolding(times::specs::Time::optional_second))]
-fn optional_second(s: &[u8], at: usize) -> (SecAndNsec<u8>, usize)
-    ensures { matched result.0 result.1 ≡ optional_second (lowered s.now) at }
+fn optional_second(s: &[u8], at: usize) -> Seconds
+    ensures { carry result.dropped (matched (record { sec = result.second; nsec = result.nanosecond }) result.next) ≡ optional_second (lowered s.now) at }
 {
-    let none = SecAndNsec { sec: 0, nsec: 0 };
-    spaces::colon(s, at)
-        .and_then(|start| second(s, start))
-        .unwrap_or((none, at))
+    match spaces::colon(s, at).and_then(|start| second(s, start)) {
+        Some((v, next, dropped)) => Seconds {
+            second: v.sec,
+            dropped,
+            nanosecond: v.nsec,
+            next,
+        },
+        None => Seconds {
+            second: 0,
+            dropped: false,
+            nanosecond: 0,
+            next: at,
+        },
+    }
 }
 
 // A number below a limit, behind space.
@@ -156,17 +176,17 @@ fn below(s: &[u8], at: usize, limit: u8) -> Option<(u8, usize)>
 
 // A number of seconds from 0 to 59, with a fraction or without one.
 #[tactic(auto, using(times::proofs::Times::times), unfolding(times::specs::Time::second))]
-fn second(s: &[u8], at: usize) -> Option<(SecAndNsec<u8>, usize)>
-    ensures { answer_of result ≡ second (lowered s.now) at }
+fn second(s: &[u8], at: usize) -> Option<(SecAndNsec<u8>, usize, bool)>
+    ensures { lossy_answer result ≡ second (lowered s.now) at }
 {
-    let (v, next) = epoch::sec_and_nsec(s, spaces::space(s, at))?;
+    let (v, next, dropped) = epoch::sec_and_nsec(s, spaces::space(s, at))?;
     let sec = v.sec;
     if sec < 60 {
         let value = SecAndNsec {
             sec: sec as u8,
             nsec: v.nsec,
         };
-        Some((value, next))
+        Some((value, next, dropped))
     } else {
         None
     }

@@ -3,7 +3,7 @@ use native.Mathlib.Omega.{arith}
 use Prim.Native.Nat.{ℕ}
 use mathlib.Core.Path.{◌≡◌, refl, sym, ◌∙◌}
 use mathlib.Core.List.{List, []}
-use Rattle.primitive.specs.Answer.{Answer, matched, none, stop, or_else}
+use Rattle.primitive.specs.Answer.{Answer, matched, dropped, none, stop, or_else}
 use Rattle.primitive.specs.Primitive.{sign, space, colon, plus_or_minus}
 use Rattle.primitive.proofs.Fronts.{tag_first, tag_else}
 use Rattle.relative.specs.Relative as relative
@@ -15,15 +15,21 @@ use Rattle.times.proofs.Times.{times}
 
 or_none : {A : Type 0} (p : Answer A) → p ≡ or_else p none
 or_none (matched v n) = refl
+or_none (dropped v n) = refl
 or_none none = refl
 or_none stop = refl
 
 -- a colon is no sign
-no_offset : (text : List ℕ) (at n : ℕ) → colon text at ≡ matched tt n → timezone_offset text at ≡ none
-unfolding timezone_offset any_offset timezone_offset_colon timezone_offset_colonless plus_or_minus sign colon
-no_offset text at n e =
-    let z = tag_first text (space text at) 58 [] n e in
-    rw (tag_else text (space text at) 43 [] (λ y. omega arith), tag_else text (space text at) 45 [] (λ y. omega arith)) (sym (nothing_left (relative.parse text at)))
+module _ (text : List ℕ) (at n : ℕ) (e : colon text at ≡ matched tt n) where
+  pub no_correction : any_offset text at ≡ none
+  unfolding any_offset timezone_offset_colon timezone_offset_colonless plus_or_minus sign colon
+  no_correction =
+      let z = tag_first text (space text at) 58 [] n e in
+      rw (tag_else text (space text at) 43 [] (λ y. omega arith), tag_else text (space text at) 45 [] (λ y. omega arith))
+
+  pub no_offset : timezone_offset text at ≡ none
+  unfolding timezone_offset
+  no_offset = rw no_correction (sym (nothing_left (relative.parse text at)))
 
 module _ (text : List ℕ) (at : ℕ) where
   pub hourless : none ≡ hour24 text at → none ≡ iso text at

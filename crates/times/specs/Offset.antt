@@ -1,7 +1,7 @@
 -- Offsets from UTC, in the order of items/offset.rs. 29.3: "The time may alternatively be followed by a time zone correction, expressed
 -- as 'SHHMM', where S is '+' or '-', HH is a number of zone hours and MM is a number of zone minutes."
 use Rattle.std.specs.Prelude.{ℕ, ◌+◌, ◌-◌, ◌*◌, ◌/◌, ◌%◌, Bool, ◌&&◌, ◌||◌, not, length, ltb, leb, eqb, ℤ, pos}
-use Rattle.primitive.specs.Answer.{Answer, Reader, matched, none, stop, if, ◌>>=◌, ◌>>◌, ◌<|>◌}
+use Rattle.primitive.specs.Answer.{Answer, Reader, matched, dropped, none, stop, if, ◌>>=◌, ◌>>◌, ◌<|>◌}
 use Rattle.primitive.specs.Primitive.{spaced, colon, plus_or_minus, dec_uint, dec_uint_str, parse_uint}
 use Rattle.primitive.specs.Epoch.{fraction}
 use Rattle.primitive.specs.Ordinal.{signed}
@@ -16,6 +16,7 @@ certain t v text at = if t (matched v at) stop
 -- an answer that counts only where another reader does not match; a stop of that reader is none
 abbrev pub without : {A B : Type 0} → Answer A → Answer B → Answer B
 without (matched v n) b = none
+without (dropped v n) b = none
 without none b = b
 without stop b = b
 

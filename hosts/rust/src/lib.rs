@@ -71,9 +71,10 @@ pub struct Refusal {
 impl Refusal {
     /// The word of the table of answers.
     pub fn word(self) -> &'static str {
-        const WORDS: [&str; 21] = [
+        // no answer has number 21
+        const WORDS: [&str; 23] = [
             "accepted", "oversize", "foreign", "unread", "stopped", "packet", "twice", "rival", "pure", "over", "under", "month", "day",
-            "hour", "minute", "second", "nanosecond", "offset", "sum", "short", "seam",
+            "hour", "minute", "second", "nanosecond", "offset", "sum", "short", "seam", "unknown", "fraction",
         ];
         WORDS.get(self.number as usize).copied().unwrap_or("unknown")
     }
@@ -82,7 +83,7 @@ impl Refusal {
 impl fmt::Display for Refusal {
     fn fmt(&self, f: &mut fmt::Formatter<'_>) -> fmt::Result {
         match self.number {
-            2..=4 => write!(f, "{} at byte {}", self.word(), self.place),
+            2..=4 | 22 => write!(f, "{} at byte {}", self.word(), self.place),
             5..=8 => write!(f, "{} at item {}", self.word(), self.place),
             _ => f.write_str(self.word()),
         }
@@ -130,7 +131,16 @@ fn number(a: raw::Number) -> Result<u32, Refusal> {
     }
 }
 
-/// Reads a text under a base: what the text leaves out is the base's.
+/// Reads a text under a base: what the text leaves out is the base's. A fraction of a second may have any number of digits, but those after
+/// the ninth must be zeros.
+///
+/// ```
+/// let base = seqtullo::Record::new(2024, 3, 13, 9, 30, 0, 0, 0)?;
+/// assert_eq!(seqtullo::read_text("10:00:05.123456789000", base)?.nanosecond, 123_456_789);
+/// let refused = seqtullo::read_text("10:00 -1.123456789012 seconds", base).unwrap_err();
+/// assert_eq!((refused.number, refused.word(), refused.place), (22, "fraction", 5));
+/// # Ok::<(), seqtullo::Refusal>(())
+/// ```
 pub fn read_text(text: impl AsRef<[u8]>, base: Record) -> Result<Record, Refusal> {
     let text = text.as_ref();
     // The pointer and the length are those of one slice, which is only read.
@@ -247,6 +257,8 @@ mod tests {
     fn refusals() {
         assert_eq!(read("sept. 3"), "unread at byte 0");
         assert_eq!(read("0am"), "stopped at byte 0");
+        assert_eq!(read("10:00 +1.1234567891 seconds"), "fraction at byte 5");
+        assert_eq!(read("10:00:00.123456789000"), "2024-03-13 10:00:00.123456789+00:00");
         assert_eq!(read("10:00 11:00"), "twice at item 1");
         assert_eq!(read_text([50, 200], base()), Err(Refusal { number: 2, place: 1 }));
         assert_eq!(read_text(vec![b' '; 4097], base()), Err(Refusal { number: 1, place: 0 }));

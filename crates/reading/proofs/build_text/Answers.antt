@@ -1,7 +1,7 @@
 -- `build_text` is its definition.
 use native.Mathlib.Omega.{arith}
 use Rattle.primitive.specs.Text.{lowered}
-use Rattle.reading.proofs.Loop.{left_start, left_end, left_unread, left_stopped, left_full, left_next}
+use Rattle.reading.proofs.Loop.{left_start, left_end, left_unread, left_stopped, left_full, left_dropped, left_next}
 use Rattle.reading.proofs.build_text.Goals as goal
 
 pub loop-item-init : goal.loop-item-init
@@ -9,7 +9,11 @@ loop-item-init c = (omega arith, rw c.new-heeded.ensures.relatives (omega arith)
 
 pub returns-then-count-eq-MOST_ITEMS : goal.returns-then-count-eq-MOST_ITEMS
 returns-then-count-eq-MOST_ITEMS c =
-    rw c.at.ensures (left_full _ _ _ _ _ _ _ c.loop-item.invariant.2 _ c.space.ensures c.loop-item-test.true _ _ c.in-Ok.ensures c.if-count-eq-MOST_ITEMS.true)
+    rw c.at.ensures (left_full _ _ _ _ _ _ _ c.loop-item.invariant.2 _ c.space.ensures c.loop-item-test.true _ _ _ c.in-Ok.ensures c.if-count-eq-MOST_ITEMS.true)
+
+pub returns-then-dropped : goal.returns-then-dropped
+returns-then-dropped c =
+    rw c.at-then-dropped.ensures (left_dropped _ _ _ _ _ _ _ c.loop-item.invariant.2 _ c.space.ensures c.loop-item-test.true _ _ _ c.in-Ok.ensures c.if-count-eq-MOST_ITEMS.false c.loop-item.invariant.0 c.if-dropped.true)
 
 pub loop-item-preserved : goal.loop-item-preserved
 unfolding lowered
@@ -17,7 +21,7 @@ loop-item-preserved c =
     let v = c.loop-item in (
       omega arith,
       omega (arith, c.heed.ensures.few),
-      left_next _ _ _ _ _ _ _ v.invariant.2 _ c.space.ensures c.loop-item-test.true _ _ c.in-Ok.ensures c.if-count-eq-MOST_ITEMS.false v.invariant.0 _ c.heed.ensures.standing _ (c.heed.ensures.kept (omega arith)),
+      left_next _ _ _ _ _ _ _ v.invariant.2 _ c.space.ensures c.loop-item-test.true _ _ _ c.in-Ok.ensures c.if-count-eq-MOST_ITEMS.false v.invariant.0 c.if-dropped.false _ c.heed.ensures.standing _ (c.heed.ensures.kept (omega arith)),
     )
 
 pub returns-in-Err-NoMatch : goal.returns-in-Err-NoMatch
