@@ -318,7 +318,7 @@ unfolding point_or_comma
 point_read true = byte_else 46 refl or byte_read 44
 point_read false = first _ (byte_read 46)
 
--- nine digits lose none, nor do zeros after them
+-- nine digits and fewer lose none
 pub nine_lose_none : (fs : List ℕ) → length fs ≤ 9 → lost fs ≡ false
 unfolding lost nonzero
 nine_lose_none fs h = rw (drop_of_length-le fs h) refl

@@ -1,12 +1,14 @@
 -- The readers that never lose a digit. All others read a fraction. Assumes nothing.
-use Prim.Native.Nat.{ℕ}
+use Prim.Native.Nat.{ℕ, zero, suc, ◌+◌}
+use lib.Dec.{eqb}
+use lib.ListN.{drop}
 use Prim.Native.String.{String}
 use lib.IntN.{ℤ}
 use mathlib.Core.List.{List, [], ◌∷◌}
 use mathlib.Core.Bool.{Bool, true, false}
 use Rattle.primitive.specs.Answer.{Reader, and_then, ◌>>=◌, if, matched, optional}
 use Rattle.primitive.specs.Text.{bytes}
-use Rattle.primitive.specs.Primitive.{multispace1, parse_uint, dec_uint_str, dec_uint, sign, colon, plus_or_minus, alpha1, same, named}
+use Rattle.primitive.specs.Primitive.{multispace0, multispace1, closing, inside, comment, no_digit, ignored_hyphen_or_plus, ignored, parse_uint, dec_uint_str, dec_uint, sign, colon, plus_or_minus, alpha1, same, named}
 use Rattle.primitive.specs.Epoch.{point_or_comma}
 use Rattle.primitive.specs.Ordinal.{signed_number, text_ordinal, number_ordinal, ordinal}
 use Rattle.dates.specs.Year.{year_from_str, year_str}
@@ -38,6 +40,39 @@ colon_whole = search wholes
 pub optional_sign_whole : Whole (optional false plus_or_minus)
 unfolding plus_or_minus sign
 optional_sign_whole = search wholes depth 30
+
+-- ---- what is skipped, and the digits of a pure number: `behind` and `wanted` meet no lost digit
+
+closing_undropped : (d : ℕ) (bs : List ℕ) (at : ℕ) → Undropped (closing d bs at)
+unfolding closing
+closing_undropped d [] at = none_undropped
+closing_undropped zero (b ∷ bs) at = if_undropped (eqb b 41) _ _ (matched_undropped tt (at + 1)) (if_undropped (eqb b 40) _ _ (closing_undropped 1 bs (at + 1)) (closing_undropped 0 bs (at + 1)))
+closing_undropped (suc d) (b ∷ bs) at =
+    if_undropped (eqb b 41) _ _ (closing_undropped d bs (at + 1)) (if_undropped (eqb b 40) _ _ (closing_undropped (suc (suc d)) bs (at + 1)) (closing_undropped (suc d) bs (at + 1)))
+
+inside_whole : Whole inside
+unfolding inside
+inside_whole = record { whole = λ text at. closing_undropped 0 (drop at text) at }
+
+multispace0_whole : Whole multispace0
+unfolding multispace0
+multispace0_whole = record { whole = λ text at. matched_undropped _ _ }
+
+no_digit_whole : Whole no_digit
+unfolding no_digit
+no_digit_whole = record { whole = λ text at. if_undropped _ _ _ none_undropped (matched_undropped _ _) }
+
+pub ignored_whole : Whole ignored
+unfolding ignored comment ignored_hyphen_or_plus sign
+ignored_whole = search (inside_whole, multispace0_whole, no_digit_whole, wholes) depth 30
+
+pub parse_uint_whole : (max : ℕ) (w : List ℕ) → Whole (parse_uint max w)
+unfolding parse_uint
+parse_uint_whole max w = search wholes
+
+pub year_from_str_whole : (w : List ℕ) → Whole (year_from_str w)
+unfolding year_from_str
+year_from_str_whole w = search wholes
 
 -- ---- dates
 

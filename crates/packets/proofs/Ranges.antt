@@ -18,7 +18,7 @@ use Rattle.primitive.specs.Primitive.{space, spaced, decimal, parse_uint, dec_ui
 use Rattle.primitive.specs.Epoch.{sec_and_nsec}
 use Rattle.primitive.specs.Ordinal.{signed, ordinals, text_ordinal, signed_number, number_ordinal, ordinal}
 use Rattle.primitive.specs.declared.SecAndNsec.{SecAndNsec}
-use Rattle.primitive.proofs.Limits.{nsec_below}
+use Rattle.primitive.proofs.Limits.{Fraction, nsec_below}
 use Rattle.primitive.proofs.Rows.{halves, both}
 use Rattle.dates.specs.Year.{widened, year_from_str, year_str}
 use Rattle.dates.specs.Date.{date_of, exists, with_year, without_year, Written, written, unwritten, dated, ended_year, dated_behind, nothing, hyphen, comma, dotted, iso1, five_digits, iso2, us_date, slash_part, us_rest, us, literal_month, literal1, literal2, literal3, literal, parse_non_iso}
@@ -139,16 +139,13 @@ below_gives : (k : ℕ) → Gives (Below k) (below k)
 unfolding below small
 below_gives k = after (Below k) small _ (λ v. verify_gives (Below k) (ltb v k) v (λ e. e))
 
-abbrev Nanos : SecAndNsec ℕ → Type 0
-Nanos v = v.nsec < 1000000000
-
-nsec_gives : Gives Nanos sec_and_nsec
-nsec_gives = known Nanos sec_and_nsec nsec_below
+nsec_gives : Gives Fraction sec_and_nsec
+nsec_gives = known Fraction sec_and_nsec nsec_below
 
 second_gives : Gives GoodSecond second
 unfolding second
 second_gives =
-    then_gives GoodSecond Nanos (spaced sec_and_nsec) _ (spaced_gives Nanos sec_and_nsec nsec_gives)
+    then_gives GoodSecond Fraction (spaced sec_and_nsec) _ (spaced_gives Fraction sec_and_nsec nsec_gives)
     (λ v h. verify_gives GoodSecond (ltb v.sec 60) _ (λ e. (e, h)))
 
 optional_second_gives : Gives GoodSecond optional_second
@@ -304,7 +301,7 @@ unfolding signed
 below_zero_in zero h = refl
 below_zero_in (suc n) h = lt-ltb n 9223372036854775808 (omega arith)
 
-rounded_good : (t : Bool) (v : SecAndNsec ℕ) → ltb v.sec (2 ^ 63) ≡ true → Nanos v → GoodRelative (rounded t v)
+rounded_good : (t : Bool) (v : SecAndNsec ℕ) → ltb v.sec (2 ^ 63) ≡ true → Fraction v → GoodRelative (rounded t v)
 unfolding rounded
 rounded_good false v e h = some_seconds (pos v.sec) v.nsec e (omega arith)
 rounded_good true v e h = go (eqb v.nsec 0)
@@ -318,7 +315,7 @@ unfolding relative-parse seconds signed_seconds displacement displaced
 relative_gives =
     or_gives GoodRelative _ _
     (after GoodRelative (optional false plus_or_minus) _
-    (λ n. then_gives GoodRelative Nanos (spaced sec_and_nsec) _ (spaced_gives Nanos sec_and_nsec nsec_gives)
+    (λ n. then_gives GoodRelative Fraction (spaced sec_and_nsec) _ (spaced_gives Fraction sec_and_nsec nsec_gives)
     (λ v h. next GoodRelative second_word _ (after GoodRelative direction _ (λ ago. verify_gives GoodRelative (ltb v.sec (2 ^ 63)) _ (λ e. rounded_good (if ago (not n) n) v e h))))))
     (then_gives GoodRelative Small (optional (pos 1) ordinal) _ (optional_gives Small (pos 1) ordinal (omega arith) ordinal_gives)
     (λ z h. after GoodRelative (spaced alpha1) _ (λ w. after GoodRelative direction _ (λ ago. in_unit_gives (if ago (neg_ℤ z) z) w (small_turned ago z h)))))
