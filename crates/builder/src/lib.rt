@@ -173,7 +173,7 @@ fn add_relatives(relatives: &[Relative], dt: ExtendedDateTime) -> Result<Extende
     Ok(dt)
 }
 
-// A record as far away as one relative item says. As a call, it would have `quick` put the item together in memory: 20 to 50 instructions a
+// A record as far away as one relative item says. As a call, it would have `text_quick` put the item together in memory: 20 to 50 instructions a
 // text.
 #[inline(always)]
 #[tactic(auto, unfolding(crate::specs::Building::add_relative))]

@@ -48,7 +48,7 @@ fn combined_time(s: &[u8], at: usize) -> Result<(Time, usize, bool), Miss>
 {
     match iso_alone(s, at) {
         Some(read) => Ok(read),
-        None => time_forms::parse(s, at),
+        None => time_readers::parse(s, at),
     }
 }
 
@@ -57,7 +57,7 @@ fn combined_time(s: &[u8], at: usize) -> Result<(Time, usize, bool), Miss>
 fn iso_alone(s: &[u8], at: usize) -> Option<(Time, usize, bool)>
     ensures { lossy_answer result ≡ attempt iso_alone (lowered s.now) at }
 {
-    let (time, next, dropped) = time_forms::iso(s, at).ok()?;
+    let (time, next, dropped) = time_readers::iso(s, at).ok()?;
     if starts_with_meridiem(s, next).is_some() {
         return None;
     }

@@ -29,7 +29,7 @@ fn items_of(text: &[u8]) -> Result<ArrayVec<Option<Item>, MOST_ITEMS>, PlacedRef
     let mut at = 0;
     // a step is as long as the item that was read, so there is no range
     while spaces::space(text, at) < text.len() {
-        match item_forms::parse_item(text, at) {
+        match item_readers::parse_item(text, at) {
             Ok((item, next, dropped)) => {
                 if items.try_push(Some(item)).is_err() {
                     return Err(Refusal::Oversize.at(0));

@@ -57,7 +57,7 @@ impl Program {
         let Some(base) = self.base else {
             return self.begin();
         };
-        let progress = lines_lib::put_answers(held, base, &mut self.output);
+        let progress = line_chunks::put_answers(held, base, &mut self.output);
         self.stdout.write_all(&self.output[..progress.used]).ok()?;
         self.from += progress.taken;
         if progress.full {
@@ -73,14 +73,14 @@ impl Program {
         if line == held.len() {
             return self.read_on();
         }
-        match quick::read_text(&held[..line], lines_lib::epoch()) {
+        match text_quick::read_text(&held[..line], line_chunks::epoch()) {
             Ok(base) => {
                 self.base = Some(base);
                 self.from += line + 1;
                 Some(())
             }
             refused => {
-                let n = answers::put_first(refused, &mut self.output);
+                let n = line_answers::put_first(refused, &mut self.output);
                 let _ = self.stdout.write_all(&self.output[..n]);
                 None
             }

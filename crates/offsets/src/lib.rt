@@ -58,7 +58,7 @@ pub fn timezone_offset(s: &[u8], start: usize) -> Result<(Offset, usize), Miss>
 {
     match any_offset(s, start) {
         Err(Miss::NoMatch) => Err(Miss::NoMatch),
-        read => unless(relative_forms::parse(s, start), read),
+        read => unless(relative_readers::parse(s, start), read),
     }
 }
 

@@ -20,7 +20,7 @@ use Rattle.rules.specs.Rules.{empty, gather, heed, relative_of, relatives}
 use Rattle.rules.specs.declared.DateTimeBuilder.{DateTimeBuilder}
 use Rattle.rules.proofs.Order.{rules_more, relatives_more}
 use Rattle.builder.specs.Building.{built, build}
-use Rattle.fields.specs.Fields.{digits_used, unpacked, fields_at}
+use Rattle.packet_fields.specs.Fields.{digits_used, unpacked, fields_at}
 use Rattle.packet.specs.Packet.{digits_stand, item_at, items_from, build_items}
 
 module _ (bytes area : List ℕ) (base : ExtendedDateTime) where

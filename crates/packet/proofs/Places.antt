@@ -13,7 +13,7 @@ use Rattle.items.specs.declared.Item.{Item}
 use Rattle.extended.specs.Placed.{Placed, fine, refusal, placed, place_of, ◌>>=◌, ◌>>◌}
 use Rattle.builder.specs.Building.{build}
 use Rattle.builder.proofs.Places.{first_step, at_place, build_place}
-use Rattle.fields.specs.Fields.{little, digits_used}
+use Rattle.packet_fields.specs.Fields.{little, digits_used}
 use Rattle.packet.specs.Packet.{count, header, digits, item_at, items_from, build_items, read_packet}
 use Rattle.packet.proofs.Steps.{few}
 

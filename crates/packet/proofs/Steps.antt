@@ -15,7 +15,7 @@ use Rattle.extended.specs.Extended.{test}
 use Rattle.extended.specs.declared.ExtendedDateTime.{ExtendedDateTime}
 use Rattle.extended.proofs.Outcomes.{first_passed, check_true}
 use Rattle.extended.specs.Placed.{Placed, refusal}
-use Rattle.fields.specs.Fields.{little}
+use Rattle.packet_fields.specs.Fields.{little}
 use Rattle.packet.specs.Packet.{count, digits_place, header, digits, build_items, read_packet}
 
 -- ---- what a good header says

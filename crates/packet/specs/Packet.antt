@@ -8,7 +8,7 @@ use Rattle.primitive.specs.Text.{lowered, digit, past}
 use Rattle.items.specs.declared.Item.{Item}
 use Rattle.extended.specs.Placed.{Placed, fine, placed, ◌>>=◌, ◌>>◌}
 use Rattle.builder.specs.Building.{build}
-use Rattle.fields.specs.Fields.{little, fields_at, unpacked, digits_used}
+use Rattle.packet_fields.specs.Fields.{little, fields_at, unpacked, digits_used}
 
 -- ---- header: "item count, offset of items (8), digit count, offset of digits (8 + 28 × items), u16 each"
 

@@ -1,7 +1,7 @@
 // The scheduler's packet: items that arrive already split, little-endian.
 //
 // - Header: the number of items, the place of the items (8), the number of digits and the place of the digits, 2 bytes each.
-// - Items of 28 bytes, as `fields::Fields` has them, and the digits of the pure numbers, to the packet's end.
+// - Items of 28 bytes, as `packet_fields::Fields` has them, and the digits of the pure numbers, to the packet's end.
 //
 // The items are walked where they lie: nothing is copied but the item at hand.
 
@@ -10,11 +10,11 @@
 ghost use Rattle.std.specs.Prelude.{◌≡◌, ◌<◌, ◌≤◌, length};
 ghost use Rattle.primitive.specs.Text.{lowered};
 ghost use Rattle.extended.specs.Refusals.{outcome_of, placed_of};
-ghost use Rattle.fields.specs.Fields.{found_of};
+ghost use Rattle.packet_fields.specs.Fields.{found_of};
 ghost use Rattle.packet.specs.Packet.{header, digits_stand, item_at, build_items, read_packet};
 
 use extended::{ExtendedDateTime, PlacedRefusal, Refusal};
-use heeding::Heeded;
+use gather::Heeded;
 use items::Item;
 
 #[tactic(auto, using(crate::proofs::Steps::steps))]
@@ -23,9 +23,9 @@ pub fn read_packet(packet: &[u8], base: ExtendedDateTime) -> Result<ExtendedDate
 {
     base.test()?;
     test_header(packet)?;
-    let count = fields::u16_at(packet, 0) as usize;
+    let count = packet_fields::u16_at(packet, 0) as usize;
     let digits = 8 + 28 * count;
-    let end = digits + fields::u16_at(packet, 4) as usize;
+    let end = digits + packet_fields::u16_at(packet, 4) as usize;
     build_items(packet, count, &packet[digits..end], base)
 }
 
@@ -37,18 +37,18 @@ fn test_header(packet: &[u8]) -> Result<(), Refusal>
     if packet.len() < 8 {
         return Err(Refusal::Packet);
     }
-    let count = fields::u16_at(packet, 0) as usize;
+    let count = packet_fields::u16_at(packet, 0) as usize;
     if 64 < count {
         return Err(Refusal::Oversize);
     }
-    if fields::u16_at(packet, 2) != 8 {
+    if packet_fields::u16_at(packet, 2) != 8 {
         return Err(Refusal::Packet);
     }
     let digits = 8 + 28 * count;
-    if fields::u16_at(packet, 6) as usize != digits {
+    if packet_fields::u16_at(packet, 6) as usize != digits {
         return Err(Refusal::Packet);
     }
-    if packet.len() != digits + fields::u16_at(packet, 4) as usize {
+    if packet.len() != digits + packet_fields::u16_at(packet, 4) as usize {
         return Err(Refusal::Packet);
     }
     Ok(())
@@ -73,7 +73,7 @@ fn build_items(
             return Err(Refusal::Packet.at(i));
         };
         heeded.heed(digits, item, i);
-        used += fields::digits_used(item);
+        used += packet_fields::digits_used(item);
     }
     let is_left = used < digits.len();
     if is_left {
@@ -90,9 +90,9 @@ fn next_item(packet: &[u8], index: usize, digits: &[u8], used: usize) -> Option<
     requires digits_len_bound { length digits.now < 65536 }
     ensures { found_of result ≡ item_at packet.now (lowered digits.now) index used }
 {
-    let fields = fields::fields_at(packet, index as u32);
-    let item = items_of_fields::unpack(fields, used as u16)?;
-    if digits_stand(digits, used, fields::digits_used(item)) {
+    let fields = packet_fields::fields_at(packet, index as u32);
+    let item = packet_decode::unpack(fields, used as u16)?;
+    if digits_stand(digits, used, packet_fields::digits_used(item)) {
         return Some(item);
     }
     None

@@ -62,8 +62,8 @@ fn reply(out: &mut Stdout, line: &[u8]) -> std::io::Result<()> {
         return out.write_all(b"\n");
     };
     let packet = packet_of(&line[..tab]);
-    let mut answer = [0; answers::LONGEST_ANSWER];
-    let n = answers::put_first(packet::read_packet(packet.as_slice(), base()), &mut answer);
+    let mut answer = [0; line_answers::LONGEST_ANSWER];
+    let n = line_answers::put_first(packet::read_packet(packet.as_slice(), base()), &mut answer);
     out.write_all(&answer[..n])
 }
 

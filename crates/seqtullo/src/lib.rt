@@ -8,12 +8,12 @@ ghost use Rattle.extended.specs.Extended.{make, date, time, accept, from_unix_se
 ghost use Rattle.writer.specs.Writer.{written, bytes_of, written_answer, over};
 ghost use Rattle.extended.specs.Placed.{place_of};
 ghost use Rattle.extended.specs.Refusals.{placed_of};
-ghost use Rattle.reading.specs.Reading.{read_text};
+ghost use Rattle.text_general.specs.Reading.{read_text};
 ghost use Rattle.packet.specs.Packet.{read_packet};
-ghost use Rattle.hosts.specs.Hosts.{record_answer, moment_answer, number_answer, placed_answer};
+ghost use Rattle.host_answers.specs.Hosts.{record_answer, moment_answer, number_answer, placed_answer};
 
 use extended::{DateParts, ExtendedDateTime, PlacedRefusal, TimeParts};
-use hosts::{Answer, Moment, Number, Record};
+use host_answers::{Answer, Moment, Number, Record};
 use writer::Written;
 
 #[unsafe(no_mangle)]
@@ -122,7 +122,7 @@ pub extern "C" fn seqtullo_days_in_month(year: u32, month: u8) -> u8
 }
 
 // Refusals from 2 to 8 and 22 have a place: a byte's index for 2 to 4 and 22, an item's for 5 to 8.
-#[tactic(auto, unfolding(hosts::specs::Hosts::placed_answer))]
+#[tactic(auto, unfolding(host_answers::specs::Hosts::placed_answer))]
 fn placed_answer(read: Result<ExtendedDateTime, PlacedRefusal>) -> Answer
     requires { place_of (placed_of read) ≤ 4096 }
     ensures { result ≡ placed_answer (placed_of read) }
@@ -146,7 +146,7 @@ fn placed_answer(read: Result<ExtendedDateTime, PlacedRefusal>) -> Answer
 pub extern "C" fn seqtullo_read_text(text: &[u8], base: Record) -> Answer
     ensures { result ≡ placed_answer (read_text text.now base) }
 {
-    placed_answer(quick::read_text(text, base))
+    placed_answer(text_quick::read_text(text, base))
 }
 
 // Reads a packet under a base.

@@ -1,2 +1,0 @@
--- The laws of the crate `fields`.
-pub mod Rows

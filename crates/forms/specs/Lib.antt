@@ -1,2 +1,0 @@
--- The definitions of the crate `forms`.
-pub mod Fractions

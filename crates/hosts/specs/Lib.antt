@@ -1,2 +1,0 @@
--- The definitions of the crate `hosts`.
-pub mod Hosts

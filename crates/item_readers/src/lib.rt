@@ -1,0 +1,99 @@
+// The reader of an item of a text, as in items/mod.rs: a date with a time, a date, a time or a relative item.
+
+#![tactic(auto)]
+
+ghost use Rattle.std.specs.Prelude.{◌≡◌};
+ghost use Rattle.primitive.specs.Text.{lowered};
+ghost use Rattle.primitive.specs.Answer.{answer_of, lossy_answer, lossy_stop_answer};
+ghost use Rattle.items.specs.Items.{dated_item, iso_date, iso_item, relative_item, time_or_relative, other_item, parse_item};
+
+use dates::date::Date;
+use items::Item;
+use primitive::Miss;
+
+// The item at a place. The first byte behind the space says what it can be: below 48, the digit 0, it begins no date and no time, and above
+// 57, the digit 9, no ISO date.
+#[tactic(auto, using(items::proofs::Fronts::fronts))]
+pub fn parse_item(s: &[u8], at: usize) -> Result<(Item, usize, bool), Miss>
+    ensures { lossy_stop_answer result ≡ parse_item (lowered s.now) at }
+{
+    let start = spaces::space(s, at);
+    if s.len() <= start {
+        return relative_item(s, start).ok_or(Miss::NoMatch);
+    }
+    if s[start] < 48 {
+        return relative_item(s, start).ok_or(Miss::NoMatch);
+    }
+    if 57 < s[start] {
+        return other_item(s, at);
+    }
+    number_item(s, at)
+}
+
+// The same where it may begin with a number.
+#[tactic(auto, unfolding(items::specs::Items::parse_item))]
+fn number_item(s: &[u8], at: usize) -> Result<(Item, usize, bool), Miss>
+    ensures { lossy_stop_answer result ≡ parse_item (lowered s.now) at }
+{
+    match iso_item(s, at) {
+        Err(Miss::NoMatch) => other_item(s, at),
+        read => read,
+    }
+}
+
+// An ISO date, with a time or alone. The date is read once.
+#[tactic(auto, unfolding(items::specs::Items::iso_item))]
+fn iso_item(s: &[u8], at: usize) -> Result<(Item, usize, bool), Miss>
+    ensures { lossy_stop_answer result ≡ iso_item (lowered s.now) at }
+{
+    let (date, next) = iso_date(s, at).ok_or(Miss::NoMatch)?;
+    dated_item(s, next, date)
+}
+
+#[tactic(auto, unfolding(items::specs::Items::iso_date))]
+fn iso_date(s: &[u8], at: usize) -> Option<(Date, usize)>
+    ensures { answer_of result ≡ iso_date (lowered s.now) at }
+{
+    date_readers::iso1(s, at).or_else(|| date_readers::iso2(s, at))
+}
+
+// A date with the time that follows it, or alone.
+#[tactic(auto, unfolding(items::specs::Items::dated_item, items::specs::Items::date_time_item))]
+fn dated_item(s: &[u8], at: usize, date: Date) -> Result<(Item, usize, bool), Miss>
+    ensures { lossy_stop_answer result ≡ dated_item date (lowered s.now) at }
+{
+    match items::combined::parse_time_after_date(s, at, date) {
+        Ok((both, next, dropped)) => Ok((Item::DateTime(both), next, dropped)),
+        Err(Miss::NoMatch) => Ok((Item::Date(date), at, false)),
+        Err(Miss::Stop) => Err(Miss::Stop),
+    }
+}
+
+#[tactic(auto, unfolding(items::specs::Items::other_item, items::specs::Items::date_item))]
+fn other_item(s: &[u8], at: usize) -> Result<(Item, usize, bool), Miss>
+    ensures { lossy_stop_answer result ≡ other_item (lowered s.now) at }
+{
+    match date_readers::parse_non_iso(s, at) {
+        Some((date, next)) => Ok((Item::Date(date), next, false)),
+        None => time_or_relative(s, at),
+    }
+}
+
+#[tactic(auto, unfolding(items::specs::Items::time_or_relative, items::specs::Items::time_item))]
+fn time_or_relative(s: &[u8], at: usize) -> Result<(Item, usize, bool), Miss>
+    ensures { lossy_stop_answer result ≡ time_or_relative (lowered s.now) at }
+{
+    match time_readers::parse(s, at) {
+        Ok((time, next, dropped)) => Ok((Item::Time(time), next, dropped)),
+        Err(Miss::NoMatch) => relative_item(s, at).ok_or(Miss::NoMatch),
+        Err(miss) => Err(miss),
+    }
+}
+
+#[tactic(auto, unfolding(items::specs::Items::relative_item))]
+fn relative_item(s: &[u8], at: usize) -> Option<(Item, usize, bool)>
+    ensures { lossy_answer result ≡ relative_item (lowered s.now) at }
+{
+    let (relative, next, dropped) = relative_readers::parse(s, at)?;
+    Some((Item::Relative(relative), next, dropped))
+}

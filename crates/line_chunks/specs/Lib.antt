@@ -1,0 +1,3 @@
+-- The definitions of the crate `line_chunks`.
+pub mod Lines
+pub mod Turns

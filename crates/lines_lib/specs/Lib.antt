@@ -1,3 +1,0 @@
--- The definitions of the crate `lines_lib`.
-pub mod Lines
-pub mod Turns

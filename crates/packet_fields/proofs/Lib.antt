@@ -1,0 +1,2 @@
+-- The laws of the crate `packet_fields`.
+pub mod Rows

@@ -1,0 +1,2 @@
+-- The definitions of the crate `packet_fields`.
+pub mod Fields

@@ -1,9 +1,0 @@
--- The theorems of the crate `packets`.
-pub mod Bytes
-pub mod Back
-pub mod Theorems
-pub mod Exact
-pub mod Gives
-pub mod Ranges
-pub mod OneReader
-pub mod Refusals

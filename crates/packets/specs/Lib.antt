@@ -1,2 +1,0 @@
--- The definitions of the crate `packets`.
-pub mod Writing

@@ -1,2 +1,0 @@
--- The laws of the crate `relative_forms`.
-pub mod Units

@@ -1,2 +1,0 @@
--- The definitions of the crate `relative_forms`.
-pub mod Unit

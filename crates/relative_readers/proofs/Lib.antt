@@ -1,0 +1,2 @@
+-- The laws of the crate `relative_readers`.
+pub mod Units

@@ -1,0 +1,2 @@
+-- The definitions of the crate `relative_readers`.
+pub mod Unit

@@ -1,0 +1,2 @@
+-- The definitions of the crate `text_general`.
+pub mod Reading

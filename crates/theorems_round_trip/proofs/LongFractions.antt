@@ -1,0 +1,95 @@
+-- Which texts are answered with 22, on the calls of hosts: exactly the admitted ones in which one of the first 64 items that the Rust reads
+-- loses a digit, at the end of the item before. All others are answered as the Rust reads them. Assumes nothing.
+use borrow.Author.Tests.{leb-true, le-leb}
+use native.Mathlib.Omega.{arith}
+use Prim.Native.Nat.{ℕ, ◌≤◌}
+use mathlib.Core.Path.{◌≡◌, refl, ap, ◌∙◌}
+use mathlib.Core.List.{List, []}
+use mathlib.Core.Bool.{Bool, true, false}
+use lib.Dec.{leb, eqb}
+use lib.ListN.{length}
+use Rattle.extended.specs.Outcome.{Outcome, accepted, refused, check}
+use Rattle.extended.specs.Extended.{test}
+use Rattle.extended.specs.Placed.{Placed, fine, refusal, placed, number_of, place_of, ◌>>◌, ◌>>=◌}
+use Rattle.extended.specs.declared.ExtendedDateTime.{ExtendedDateTime}
+use Rattle.primitive.specs.Answer.{if}
+use Rattle.primitive.specs.Text.{lowered}
+use Rattle.items.specs.Items.{Parsed, parse_items}
+use Rattle.theorems_forms.specs.Fractions.{Drops}
+use Rattle.theorems_forms.proofs.DroppedItems.{Refused, drops_refused, refused_drops}
+use Rattle.builder.specs.Building.{build}
+use Rattle.text_general.specs.Reading.{ascii_end, items_of, build_parsed, read_parsed, read_text, rust_text}
+use Rattle.text_general.proofs.Theorems.{same_text}
+use Rattle.host_answers.specs.Hosts.{placed_answer}
+use Rattle.host_answers.specs.declared.Answer.{Answer}
+use Rattle.theorems_round_trip.proofs.Refusals.{Numbered, bounds, test_numbered}
+use Rattle.theorems_round_trip.proofs.BuildRefusals.{build_numbered}
+use Rattle.theorems_round_trip.proofs.Theorems.{Read}
+
+-- The base is accepted, and the text has at most 4096 bytes, each below 128: what is tested before any item is read.
+pub record Admitted (text : List ℕ) (base : ExtendedDateTime) : Type 0 where
+  pub accepted_base : test base ≡ accepted tt
+  pub short : length (lowered text) ≤ 4096
+  pub ascii : length (lowered text) ≤ ascii_end (lowered text)
+
+-- As the Rust reads the text, an item at p loses a digit, after fewer than 64 items that lose none.
+abbrev pub LosesAt : List ℕ → ℕ → Type 0
+LosesAt text p = Drops (lowered text) 64 0 p
+
+-- ---- the items
+
+module _ (base : ExtendedDateTime) where
+  parsed_22 : (a : Parsed) (p : ℕ) → Refused a p → build_parsed a base ≡ refusal 22 p
+  unfolding build_parsed items_of
+  parsed_22 a p h = rw (h.0, h.1) refl
+
+  only_parsed : (a : Parsed) → number_of (build_parsed a base) ≡ 22 → Refused a (place_of (build_parsed a base))
+  unfolding build_parsed items_of
+  only_parsed a = go (eqb a.number 0)
+    where
+      go : (t : Bool) → number_of (if t (fine a.items) (refusal a.number a.place) >>= (λ xs. build [] xs base)) ≡ 22
+          → Refused a (place_of (if t (fine a.items) (refusal a.number a.place) >>= (λ xs. build [] xs base)))
+      go true e = absurd (omega (arith, build_numbered [] a.items base))
+      go false e = (e, refl)
+
+-- ---- the calls
+
+module _ (text : List ℕ) (base : ExtendedDateTime) where
+  text_22 : (p : ℕ) → Admitted text base → LosesAt text p → read_text text base ≡ refusal 22 p
+  unfolding read_text read_parsed
+  text_22 p h d =
+      rw (h.accepted_base, le-leb (length (lowered text)) 4096 h.short, le-leb (length (lowered text)) (ascii_end (lowered text)) h.ascii)
+      (parsed_22 base (parse_items (lowered text)) p (drops_refused (lowered text) p d))
+
+  only_text : number_of (read_text text base) ≡ 22 → Admitted text base × LosesAt text (place_of (read_text text base))
+  unfolding read_text read_parsed
+  only_text = go (test base) refl (test_numbered base) (leb (length (lowered text)) 4096) refl (leb (length (lowered text)) (ascii_end (lowered text))) refl
+    where
+      tail : Bool → Bool → Placed ExtendedDateTime
+      tail s t = placed 0 (check s 1) >> (placed (ascii_end (lowered text)) (check t 2) >> build_parsed (parse_items (lowered text)) base)
+
+      go : (o : Outcome (Unit {0})) → test base ≡ o → Numbered o → (s : Bool) → leb (length (lowered text)) 4096 ≡ s → (t : Bool) → leb (length (lowered text)) (ascii_end (lowered text)) ≡ t
+          → number_of (placed 0 o >> tail s t) ≡ 22 → Admitted text base × LosesAt text (place_of (placed 0 o >> tail s t))
+      go (accepted u) e n true f true g h = (
+        record { accepted_base = e; short = leb-true (length (lowered text)) 4096 f; ascii = leb-true (length (lowered text)) (ascii_end (lowered text)) g },
+        refused_drops (lowered text) _ (only_parsed base (parse_items (lowered text)) h),
+      )
+      go (accepted u) e n true f false g h = absurd (omega arith)
+      go (accepted u) e n false f t g h = absurd (omega arith)
+      go (refused k) e n s f t g h = let z = (bounds n).1 in absurd (omega arith)
+
+  module _ (a : Answer) (call : Read text base a) where
+    -- A text that is admitted, and has such an item at p, is answered with 22 at p, whatever follows the item.
+    pub loss_refused : (p : ℕ) → Admitted text base → LosesAt text p → (a.number ≡ 22) × (a.place ≡ p)
+    unfolding placed_answer
+    loss_refused p h d = let z = call.answer ∙ ap placed_answer (text_22 p h d) in (rw z refl, rw z refl)
+
+    -- A text that is not answered with 22 is answered as the Rust's reading has it.
+    pub no_loss : (a.number ≡ 22 → ⊥) → a ≡ placed_answer (rust_text text base)
+    unfolding placed_answer
+    no_loss h = call.answer ∙ ap placed_answer (same_text text base (λ e. h (rw call.answer e)))
+
+    -- No other text is answered with 22, and the answer's place is that of such an item.
+    pub refused_loss : a.number ≡ 22 → Admitted text base × LosesAt text a.place
+    unfolding placed_answer
+    refused_loss e = rw call.answer (only_text (rw call.answer at e))

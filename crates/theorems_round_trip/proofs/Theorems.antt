@@ -1,0 +1,152 @@
+-- What writing and reading promise together, on the functions that hosts call: read this file first. A call enters by its contract:
+-- `Wrote` is all that `seqtullo_write` ensures, `Read` all that `seqtullo_read_text` ensures. `test r ≡ accepted tt` says that `new`
+-- refuses none of the numbers of r; `moment` is the counted calendar's, in whole numbers without bound. Assumes nothing.
+use native.Mathlib.Omega.{arith}
+use borrow.Author.Tests.{le-leb}
+use Prim.Native.Nat.{ℕ, ◌+◌, ◌/◌, ◌%◌, ◌<◌, ◌≤◌}
+use mathlib.Core.Path.{◌≡◌, refl, sym, ap, ap₂, ◌∙◌}
+use mathlib.Core.Bool.{Bool, true, false}
+use mathlib.Core.List.{List, ◌∷◌, ◌++◌}
+use lib.IntN.{ℤ, pos, ◌+ℤ◌, +ℤ_idr}
+use lib.ListN.{length, take, drop}
+use lib.Seq.{take-append_seam, drop-append_seam}
+use Rattle.extended.specs.Outcome.{Outcome, accepted, refused}
+use Rattle.extended.specs.Extended.{blank, test, moment, add_seconds}
+use Rattle.extended.specs.declared.ExtendedDateTime.{ExtendedDateTime}
+use Rattle.extended.proofs.Outcomes.{same}
+use Rattle.extended.proofs.Records.{facts}
+use Rattle.extended.proofs.Theorems.{Recorded, from_unix_seconds_exact, seconds_exact, seconds_refused}
+use Rattle.primitive.specs.Ordinal.{signed}
+use Rattle.primitive.specs.Text.{bytes}
+use Rattle.extended.specs.Placed.{placed}
+use Rattle.writer.specs.Writer.{digits, sign_of, whole_minutes, text_of, written, bytes_of, written_answer, over}
+use Rattle.writer.specs.declared.Written.{Written}
+use Rattle.writer.proofs.Texts.{text_long}
+use Rattle.writer.proofs.Theorems.{one_owner}
+use Rattle.text_general.specs.Reading.{read_text}
+use Rattle.theorems_round_trip.proofs.Texts.{shift, read_alone, read_moved}
+use Rattle.theorems_round_trip.proofs.Refusals.{bounds, Among, Low, fine_low, placed_low, add_seconds_numbered}
+use Rattle.theorems_round_trip.proofs.TextRefusals.{any_base}
+use Rattle.host_answers.specs.Hosts.{placed_answer}
+use Rattle.host_answers.specs.declared.Answer.{Answer}
+
+-- `seqtullo_write` was called with r and the bytes `out`, answered w and left the bytes `left`
+pub record Wrote (r : ExtendedDateTime) (out : List ℕ) (w : Written) (left : List ℕ) : Type 0 where
+  pub answer : w ≡ written_answer (written r (length out))
+  pub bytes : left ≡ over (bytes_of (written r (length out))) out
+
+-- `seqtullo_read_text` was called with the text and the base, and answered a
+pub record Read (text : List ℕ) (base : ExtendedDateTime) (a : Answer) : Type 0 where
+  pub answer : a ≡ placed_answer (read_text text base)
+
+-- an accepted record with an offset of whole minutes
+pub record Writable (r : ExtendedDateTime) : Type 0 where
+  pub accepted_record : test r ≡ accepted tt
+  pub whole : whole_minutes r.offset_seconds ≡ true
+
+-- a blank, the sign, N in decimal without leading zeros, a blank and `seconds`; a blank is 32, `-` is 45 for true and `+` is 43
+abbrev pub seconds : Bool → ℕ → List ℕ
+seconds minus n = 32 ∷ (sign_of minus ∷ (digits n ++ (32 ∷ bytes "seconds")))
+
+seconds_are : (minus : Bool) (n : ℕ) → shift minus n ≡ seconds minus n
+unfolding shift
+seconds_are true n = refl
+seconds_are false n = refl
+
+-- "A record's text is the bytes the writer puts at the front of the lent place, as many as the length it answers"
+abbrev pub text_in : Written → List ℕ → List ℕ
+text_in w left = take w.length left
+
+-- ---- sums without nanoseconds
+
+no_carry : (r : ExtendedDateTime) (z : ℤ) → test r ≡ accepted tt → z +ℤ pos ((r.nanosecond + 0) / 1000000000) ≡ z
+no_carry r z t = let e : (r.nanosecond + 0) / 1000000000 ≡ 0 = omega (arith, (facts r t).nanosecond_high) in rw e (+ℤ_idr z)
+
+recorded : (r : ExtendedDateTime) (z : ℤ) (s : ExtendedDateTime) → test r ≡ accepted tt → Recorded (z +ℤ pos ((r.nanosecond + 0) / 1000000000)) ((r.nanosecond + 0) % 1000000000) r.offset_seconds s → Recorded z r.nanosecond r.offset_seconds s
+recorded r z s t w =
+    let e : (r.nanosecond + 0) % 1000000000 ≡ r.nanosecond = omega (arith, (facts r t).nanosecond_high) in
+    record { is_accepted = w.is_accepted; has_moment = w.has_moment ∙ no_carry r z t; has_nanosecond = w.has_nanosecond ∙ e; has_offset = w.has_offset }
+
+-- ---- writing
+
+written_whole : (r : ExtendedDateTime) (room : ℕ) → Writable r → 41 ≤ room → written r room ≡ accepted (text_of r)
+unfolding written
+written_whole r room k h = rw (k.accepted_record, k.whole, le-leb (length (text_of r)) room (omega (arith, text_long r (facts r k.accepted_record))))
+
+module _ (r : ExtendedDateTime) (k : Writable r) (out : List ℕ) (room : 41 ≤ length out) (w : Written) (left : List ℕ) (call : Wrote r out w left) where
+  answered : w ≡ record { number = 0; length = length (text_of r) }
+  answered = call.answer ∙ ap written_answer (written_whole r (length out) k room)
+
+  lent : left ≡ text_of r ++ drop (length (text_of r)) out
+  lent = call.bytes ∙ ap (λ o. over (bytes_of o) out) (written_whole r (length out) k room)
+
+  text_in_lem : text_in w left ≡ text_of r
+  text_in_lem = rw (answered, lent) (take-append_seam (text_of r) (drop (length (text_of r)) out))
+
+  -- Every such record is written where 41 bytes or more are lent: in 35 to 41 bytes, and the bytes behind them stay.
+  pub is_written : (w.number ≡ 0) × (35 ≤ w.length) × (w.length ≤ 41) × (drop w.length left ≡ drop w.length out)
+  is_written =
+      let l = text_long r (facts r k.accepted_record) in
+      (rw answered, rw answered l.0, rw answered l.1, rw (answered, lent) (drop-append_seam (text_of r) (drop (length (text_of r)) out)))
+
+  -- ---- reading it back
+
+  module _ (base : ExtendedDateTime) (b : test base ≡ accepted tt) where
+    -- The text, read under any accepted base, is the record.
+    pub reads_back : (a : Answer) → Read (text_in w left) base a → a ≡ record { number = 0; place = 0; «record» = r }
+    unfolding placed_answer
+    reads_back a c = c.answer ∙ ap placed_answer (ap (λ l. read_text l base) text_in_lem ∙ read_alone base r b k.accepted_record k.whole)
+
+    -- The answer to a text whose moment should be u: the one accepted record there, with the written record's nanosecond and offset, or
+    -- a refusal, and then no accepted record has that moment and offset.
+    pub data Answered (u : ℤ) (a : Answer) : Type 0 where
+      there : a.number ≡ 0 → Recorded u r.nanosecond r.offset_seconds a.«record» → Answered u a
+      nowhere : 0 < a.number → a.«record» ≡ blank → ((s : ExtendedDateTime) → test s ≡ accepted tt → moment s ≡ u → s.offset_seconds ≡ r.offset_seconds → ⊥) → Answered u a
+
+    -- The text with N seconds behind it, N from 0 to 9223372036854775807, read under any accepted base.
+    pub reads_moved : (minus : Bool) (n : ℕ) → n ≤ 9223372036854775807 → (a : Answer) → Read (text_in w left ++ seconds minus n) base a → Answered (moment r +ℤ signed minus n) a
+    unfolding placed_answer
+    reads_moved minus n h a c = by (add_seconds r (signed minus n) 0) refl
+      where
+        d : ℤ
+        d = signed minus n
+
+        t : test r ≡ accepted tt
+        t = k.accepted_record
+
+        small : r.nanosecond + 0 < 2000000000
+        small = omega (arith, (facts r t).nanosecond_high)
+
+        e : a ≡ placed_answer (placed 0 (add_seconds r d 0))
+        e = c.answer ∙ ap placed_answer (ap₂ (λ (l : List ℕ) (m : List ℕ). read_text (l ++ m) base) text_in_lem (sym (seconds_are minus n)) ∙ read_moved base r b t k.whole minus n (omega arith))
+
+        by : (o : Outcome ExtendedDateTime) → add_seconds r d 0 ≡ o → Answered (moment r +ℤ d) a
+        by (accepted s) q = there (rw (e, q)) (rw (e, q) (recorded r (moment r +ℤ d) s t ((seconds_exact r d 0 s t small).0 q)))
+        by (refused j) q = nowhere (rw (e, q) (bounds (rw q at (add_seconds_numbered r d 0))).0) (rw (e, q)) (λ s ts m o. seconds_refused r d 0 j t small q s ts (m ∙ sym (no_carry r (moment r +ℤ d) t)) o)
+
+  -- ---- no digit of it is lost
+
+  module _ (base : ExtendedDateTime) where
+    undropped : (text : List ℕ) → (test base ≡ accepted tt → Among Low (read_text text base)) → (a : Answer) → Read text base a → a.number ≡ 22 → ⊥
+    unfolding placed_answer
+    undropped text h a c e = let low : a.number ≤ 20 = rw c.answer (any_base text base h).number in omega arith
+
+    -- The text, read under any base, be it refused or not, is never answered with 22.
+    pub written_undropped : (a : Answer) → Read (text_in w left) base a → a.number ≡ 22 → ⊥
+    written_undropped = undropped (text_in w left) (λ b. rw (text_in_lem, read_alone base r b k.accepted_record k.whole) (fine_low r))
+
+    -- Nor is the text with N seconds after it, N from 0 to 9223372036854775807.
+    pub moved_undropped : (minus : Bool) (n : ℕ) → n ≤ 9223372036854775807 → (a : Answer) → Read (text_in w left ++ seconds minus n) base a → a.number ≡ 22 → ⊥
+    moved_undropped minus n h =
+        undropped (text_in w left ++ seconds minus n)
+        (λ b. rw (text_in_lem, ← seconds_are minus n, read_moved base r b k.accepted_record k.whole minus n (omega arith)) (placed_low 0 (add_seconds_numbered r (signed minus n) 0)))
+
+-- No two such records are written as one text.
+pub one_text : (r s : ExtendedDateTime) → Writable r → Writable s → (out out' : List ℕ) → 41 ≤ length out → 41 ≤ length out' → (w w' : Written) (left left' : List ℕ) →
+    Wrote r out w left → Wrote s out' w' left' → text_in w left ≡ text_in w' left' → r ≡ s
+one_text r s k l out out' room room' w w' left left' c c' e =
+    one_owner r s k.accepted_record l.accepted_record k.whole l.whole (sym (text_in_lem r k out room w left c) ∙ e ∙ text_in_lem s l out' room' w' left' c')
+
+-- There is at most one accepted record of a moment, a nanosecond and an offset.
+pub one_record : (u : ℤ) (n : ℕ) (o : ℤ) (r s : ExtendedDateTime) → Recorded u n o r → Recorded u n o s → r ≡ s
+one_record u n o r s p q = same (sym ((from_unix_seconds_exact u n o r).1 p) ∙ (from_unix_seconds_exact u n o s).1 q)
