@@ -8,7 +8,7 @@ use mathlib.Core.Path.{◌≡◌, refl}
 use mathlib.Core.Bool.{Bool, true, false}
 use mathlib.Core.List.{[], ◌∷◌}
 use lib.IntN.{ℤ}
-use Rattle.extended.specs.Outcome.{Outcome, accepted, refused, ◌>>=◌}
+use Rattle.answers.specs.Outcome.{Outcome, accepted, refused, ◌>>=◌}
 use Rattle.extended.specs.Extended.{make, date, time, date_of, test, accept, with_date, with_time, with_offset}
 use Rattle.extended.specs.declared.ExtendedDateTime.{ExtendedDateTime}
 use Rattle.extended.proofs.Records.{facts, tested}
@@ -19,7 +19,7 @@ use Rattle.times.specs.declared.time.Time.{Time}
 use Rattle.relative.specs.declared.Relative.{Relative}
 use Rattle.items.specs.declared.Item.{Item}
 use Rattle.items.specs.declared.Item.TheVariants as item
-use Rattle.extended.specs.Placed.{fine, placed}
+use Rattle.answers.specs.Placed.{fine, placed}
 use Rattle.rules.specs.Rules.{need_midnight, set_date, set_time, set_date_time, set_item, gather, relatives}
 use Rattle.builder.specs.Building.{start, on_date, on_offset, on_time, on_weekday, add_relative, add_relatives, on_zone, absolute, build_extended, built, build}
 use Rattle.rules.specs.declared.DateTimeBuilder.{DateTimeBuilder}

@@ -6,7 +6,7 @@ use mathlib.Core.Path.{◌≡◌, refl}
 use mathlib.Core.List.{List, [], ◌∷◌}
 use lib.ListN.{length, drop, get_or}
 use lib.Seq.{drop-cons}
-use Rattle.extended.specs.Outcome.{Outcome, accepted, refused, ◌>>=◌}
+use Rattle.answers.specs.Outcome.{Outcome, accepted, refused, ◌>>=◌}
 use Rattle.extended.specs.declared.ExtendedDateTime.{ExtendedDateTime}
 use Rattle.relative.specs.declared.Relative.{Relative}
 use Rattle.builder.specs.Building.{add_relative, add_relatives}

@@ -2,14 +2,13 @@
 use Rattle.items.specs.declared.Item.{Item}
 use native.Mathlib.Omega.{arith}
 use Prim.Native.Nat.{ℕ, suc, ◌+◌, ◌≤◌}
-use mathlib.Core.Bool.{Bool, true, false}
+use mathlib.Core.Bool.{Bool, true, false, cond}
 use mathlib.Core.List.{List, [], ◌∷◌}
 use lib.Dec.{eqb}
 use lib.ListN.{length}
-use Rattle.extended.specs.Outcome.{Outcome, accepted, refused}
+use Rattle.answers.specs.Outcome.{Outcome, accepted, refused}
 use Rattle.extended.specs.declared.ExtendedDateTime.{ExtendedDateTime}
-use Rattle.primitive.specs.Answer.{if}
-use Rattle.extended.specs.Placed.{Placed, fine, refusal, placed, place_of, ◌>>=◌, ◌>>◌}
+use Rattle.answers.specs.Placed.{Placed, fine, refusal, placed, place_of, ◌>>=◌, ◌>>◌}
 use Rattle.rules.specs.Rules.{empty, set_item, rule_place, onward, gather, relatives}
 use Rattle.rules.specs.declared.DateTimeBuilder.{DateTimeBuilder}
 use Rattle.builder.specs.Building.{build_extended, built, build}
@@ -18,7 +17,7 @@ place_low : (n i : ℕ) → rule_place n i ≤ i
 unfolding rule_place
 place_low n i = go (eqb n 9)
   where
-    go : (t : Bool) → if t 0 i ≤ i
+    go : (t : Bool) → cond t 0 i ≤ i
     go true = omega arith
     go false = omega arith
 

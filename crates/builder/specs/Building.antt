@@ -1,5 +1,6 @@
 -- How the items make a record of the base: document 01, 'items/weekday.rs, items/builder.rs'.
-use Rattle.std.specs.Prelude.{Option, Some, None}
+use Rattle.answers.specs.Numbers as refusal
+use Rattle.std.specs.Prelude.{Option, Some, None, cond}
 use Rattle.items.specs.declared.Item.{Item}
 use Rattle.dates.specs.declared.date.Date.{Date}
 use Rattle.times.specs.declared.time.Time.{Time}
@@ -7,18 +8,17 @@ use Rattle.rules.specs.declared.Zone.{Zone}
 use Rattle.times.specs.declared.offset.Offset.{Offset}
 use Rattle.std.specs.Prelude.{ℕ, zero, suc, ◌+◌, ◌-◌, ◌%◌, Bool, true, false, List, [], ◌∷◌, eqb, ℤ, pos, negsuc, ◌+ℤ◌, ◌*ℤ◌}
 use Rattle.integers.specs.Integers.{in_i32}
-use Rattle.extended.specs.Outcome.{Outcome, accepted, check, ◌>>=◌, ◌>>◌}
+use Rattle.answers.specs.Outcome.{Outcome, accepted, check, ◌>>=◌, ◌>>◌}
 use Rattle.extended.specs.Extended.{date, time, accept, with_date, with_time, with_offset, add_seconds, add_days, add_hours, add_minutes, add_years, add_months, weekday_monday0}
 use Rattle.extended.specs.declared.ExtendedDateTime.{ExtendedDateTime}
-use Rattle.primitive.specs.Answer.{if}
 use Rattle.times.specs.Offset.{normalized, total_seconds}
 use Rattle.times.specs.declared.offset.Normalized.{Normalized}
 use Rattle.relative.specs.declared.Relative.{Relative}
 use Rattle.relative.specs.declared.Relative.TheVariants as relative
 use Rattle.items.specs.Items.{day_index}
 use Rattle.items.specs.declared.Weekday.{Weekday}
-use Rattle.extended.specs.Placed as placed
-use Rattle.extended.specs.Placed.{Placed, fine, refusal}
+use Rattle.answers.specs.Placed as placed
+use Rattle.answers.specs.Placed.{Placed, fine, refusal}
 use Rattle.rules.specs.Rules.{empty, need_midnight, gather, relatives}
 use Rattle.rules.specs.declared.Zone.TheVariants as given-zone
 use Rattle.rules.specs.declared.DateTimeBuilder.{DateTimeBuilder}
@@ -26,7 +26,7 @@ use Rattle.rules.specs.declared.DateTimeBuilder.{DateTimeBuilder}
 -- ---- the clock at the start
 
 unfoldable pub start : DateTimeBuilder → Bool → ExtendedDateTime → Outcome ExtendedDateTime
-start b bare base = if (need_midnight b bare) (with_time base (time 0 0 0 0)) (accept base)
+start b bare base = cond (need_midnight b bare) (with_time base (time 0 0 0 0)) (accept base)
 
 -- ---- date, time, weekday
 
@@ -56,7 +56,7 @@ nearer (pos zero) = pos 0
 nearer (negsuc n) = negsuc n
 
 unfoldable pub weeks : ℤ → Bool → ℤ
-weeks n same = if same n (nearer n)
+weeks n same = cond same n (nearer n)
 
 -- the days from one day of the week to another that comes on it or behind it
 unfoldable pub ahead : ℕ → ℕ → ℕ
@@ -65,8 +65,8 @@ ahead today target = (target % 7 + 7 - today % 7) % 7
 -- the weeks in days, and the days ahead; "the weekday sum" is 18
 unfoldable pub weekday_sum : ℤ → ℕ → Outcome ℤ
 weekday_sum n k = do
-  check (in_i32 (n *ℤ pos 7)) 18
-  check (in_i32 (n *ℤ pos 7 +ℤ pos k)) 18
+  check (in_i32 (n *ℤ pos 7)) refusal.sum
+  check (in_i32 (n *ℤ pos 7 +ℤ pos k)) refusal.sum
   accepted (n *ℤ pos 7 +ℤ pos k)
 
 unfoldable pub delta : Weekday → ℕ → Outcome ℤ

@@ -1,11 +1,11 @@
 // A call, made. The functions for hosts have their names without `seqtullo_`, the others those of the crates `extended` and `moments`.
 use crate::arguments::Arguments;
 use crate::replies::Reply;
-use extended::{DateParts, ExtendedDateTime, Refusal, TimeParts};
+use extended::{DateParts, ExtendedDateTime, TimeParts};
 
 // Makes a call. A record takes the first eight arguments.
 pub fn answer(name: &str, a: &Arguments) -> Reply {
-    let r = record(a);
+    let r = extended::from_parts(date(a), time(a), a.at(7));
     match name {
         "is_leap_year" => Reply::Number(u32::from(extended::is_leap_year(a.at(0)))),
         "days_in_month" => Reply::Number(u32::from(extended::days_in_month(a.at(0), a.at(1)))),
@@ -23,35 +23,24 @@ pub fn answer(name: &str, a: &Arguments) -> Reply {
         "with_offset" => Reply::Made(r.with_offset(a.at(8))),
         "with_date" => Reply::Made(r.with_date(a.at(8), a.at(9), a.at(10))),
         "with_time" => Reply::Made(r.with_time(a.at(8), a.at(9), a.at(10), a.at(11))),
-        "new" => Reply::Made(new(r)),
+        "new" => Reply::Made(ExtendedDateTime::new(date(a), time(a), a.at(7))),
         _ => Reply::Unknown,
     }
 }
 
-fn record(a: &Arguments) -> ExtendedDateTime {
-    ExtendedDateTime {
+fn date(a: &Arguments) -> DateParts {
+    DateParts {
         year: a.at(0),
         month: a.at(1),
         day: a.at(2),
+    }
+}
+
+fn time(a: &Arguments) -> TimeParts {
+    TimeParts {
         hour: a.at(3),
         minute: a.at(4),
         second: a.at(5),
         nanosecond: a.at(6),
-        offset_seconds: a.at(7),
     }
-}
-
-fn new(r: ExtendedDateTime) -> Result<ExtendedDateTime, Refusal> {
-    let date = DateParts {
-        year: r.year,
-        month: r.month,
-        day: r.day,
-    };
-    let time = TimeParts {
-        hour: r.hour,
-        minute: r.minute,
-        second: r.second,
-        nanosecond: r.nanosecond,
-    };
-    ExtendedDateTime::new(date, time, r.offset_seconds)
 }

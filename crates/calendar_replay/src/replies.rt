@@ -1,5 +1,6 @@
 // Replies, written without the line's end: 0 and what the call gives, or the number of its refusal alone.
-use extended::{ExtendedDateTime, Refusal};
+use answers::Refusal;
+use extended::ExtendedDateTime;
 use std::fmt;
 
 #[derive(Clone, Copy)]

@@ -3,6 +3,8 @@
 
 #![tactic(auto)]
 
+pub mod year;
+
 ghost use Rattle.std.specs.Prelude.{◌≡◌, ℕ, List};
 ghost use Rattle.primitive.specs.Text.{lowered};
 ghost use Rattle.primitive.specs.Answer.{answer_of, place_answer, matched, or_else};
@@ -22,7 +24,7 @@ pub fn exists(year: u32, month: u8, day: u8) -> bool
 pub fn with_year(digits: &[u8], on: MonthDay, next: usize) -> Option<(Date, usize)>
     ensures { (text : List ℕ) → answer_of result ≡ with_year (lowered digits.now) on.month on.day text next }
 {
-    let year = dates::year::year_from_str(digits)?;
+    let year = year::year_from_str(digits)?;
     if !exists(year, on.month, on.day) {
         return None;
     }
@@ -72,7 +74,7 @@ fn end_of_text(s: &[u8], at: usize) -> Option<usize>
 fn ended_year(s: &[u8], at: usize, start: usize) -> Option<(&[u8], usize)>
     ensures { year_answer at result ≡ or_else (ended (lowered s.now) start) (matched unwritten at) }
 {
-    let (digits, end) = dates::year::year_str(s, start)?;
+    let (digits, end) = year::year_str(s, start)?;
     let next = blank_or_end(s, end)?;
     Some((digits, next))
 }
@@ -93,7 +95,7 @@ fn dated(s: &[u8], at: usize, start: usize, on: MonthDay) -> Option<(Date, usize
 pub fn hyphen(s: &[u8], at: usize) -> usize
     ensures { matched tt result ≡ hyphen (lowered s.now) at }
 {
-    spaces::spaced_byte(s, at, 45).unwrap_or(at)
+    spaces::spaced_byte(s, at, b'-').unwrap_or(at)
 }
 
 // GNU quirk: a comma only with a blank behind it, as in `Nov 14, 2022`.
@@ -101,7 +103,7 @@ pub fn hyphen(s: &[u8], at: usize) -> usize
 fn comma(s: &[u8], at: usize) -> usize
     ensures { matched tt result ≡ comma (lowered s.now) at }
 {
-    let comma = spaces::spaced_byte(s, at, 44);
+    let comma = spaces::spaced_byte(s, at, b',');
     comma
         .and_then(|next| primitive::multispace1(s, next))
         .map_or(at, |(_, next)| next)

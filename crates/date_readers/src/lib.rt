@@ -21,7 +21,7 @@ const YEAR_DIGITS: usize = 4;
 pub fn iso1(s: &[u8], at: usize) -> Option<(Date, usize)>
     ensures { answer_of result ≡ iso1 (lowered s.now) at }
 {
-    let (year, at) = dates::year::year_str(s, at)?;
+    let (year, at) = date_parts::year::year_str(s, at)?;
     let at = spaces::spaced_hyphen(s, at)?;
     let (month, at) = numbers::spaced_u8(s, at)?;
     let at = spaces::spaced_hyphen(s, at)?;
@@ -59,9 +59,9 @@ fn dotted(s: &[u8], at: usize) -> Option<(Date, usize)>
     ensures { answer_of result ≡ dotted (lowered s.now) at }
 {
     let (day, at) = numbers::spaced_u8(s, at)?;
-    let at = spaces::spaced_byte(s, at, 46)?;
+    let at = spaces::spaced_byte(s, at, b'.')?;
     let (month, at) = numbers::spaced_u8(s, at)?;
-    let at = spaces::spaced_byte(s, at, 46)?;
+    let at = spaces::spaced_byte(s, at, b'.')?;
     date_parts::plain_dated(s, at, MonthDay { month, day })
 }
 
@@ -70,8 +70,8 @@ fn dotted(s: &[u8], at: usize) -> Option<(Date, usize)>
 fn us(s: &[u8], at: usize) -> Option<(Date, usize)>
     ensures { answer_of result ≡ us (lowered s.now) at }
 {
-    let (first, at) = dates::year::year_str(s, at)?;
-    let at = spaces::spaced_byte(s, at, 47)?;
+    let (first, at) = date_parts::year::year_str(s, at)?;
+    let at = spaces::spaced_byte(s, at, b'/')?;
     let (number, at) = numbers::spaced_u8(s, at)?;
     us_rest(s, at, first, number)
 }
@@ -98,6 +98,6 @@ fn us_rest(s: &[u8], at: usize, first: &[u8], number: u8) -> Option<(Date, usize
 fn slash_part(s: &[u8], at: usize) -> Option<(&[u8], usize)>
     ensures { year_answer at result ≡ slash_part (lowered s.now) at }
 {
-    let start = spaces::spaced_byte(s, at, 47)?;
-    dates::year::year_str(s, start)
+    let start = spaces::spaced_byte(s, at, b'/')?;
+    date_parts::year::year_str(s, start)
 }

@@ -5,7 +5,7 @@ use Prim.Native.String.{String}
 use mathlib.Core.Path.{◌≡◌, refl}
 use mathlib.Core.List.{List, [], ◌∷◌}
 use lib.IntN.{pos, negsuc}
-use Rattle.extended.specs.Outcome.{Outcome, accepted, refused}
+use Rattle.answers.specs.Outcome.{Outcome, accepted, refused}
 use Rattle.extended.specs.Calendar.{leap, month_days}
 use Rattle.extended.specs.Extended.{from_unix_seconds, add_months, add_years}
 use Rattle.extended.specs.declared.ExtendedDateTime.{ExtendedDateTime}

@@ -3,3 +3,6 @@ pub mod Months
 pub mod Years
 pub mod Parts
 pub mod Examples
+pub mod Forms
+pub mod LiteralForms
+pub mod Forward

@@ -1,7 +1,7 @@
 -- Laws of parts of a text: parts of bytes in lower case, and a byte behind a part. Assumes nothing.
 use Prim.Native.Nat.{ℕ, ◌+◌, ◌-◌, ◌<◌, ◌≤◌}
 use mathlib.Core.Path.{◌≡◌, refl, sym, ap, ◌∙◌}
-use mathlib.Core.Bool.{Bool, true, false, ◌&&◌}
+use mathlib.Core.Bool.{Bool, true, false, ◌&&◌, cond}
 use mathlib.Core.List.{List, [], ◌∷◌, ◌++◌}
 use native.Mathlib.Omega.{arith}
 use native.Mathlib.Numerals.{add-one}
@@ -9,7 +9,7 @@ use lib.Dec.{ltb, eqb}
 use lib.ListN.{length, get_or, take, drop, length-drop}
 use lib.Seq.{slice, length-take-le, take-suc, drop-cons, drop-append-le}
 use borrow.Author.Tests.{ltb-true, eqb-true}
-use Rattle.primitive.specs.Answer.{Answer, matched, none, if}
+use Rattle.primitive.specs.Answer.{Answer, matched, none}
 use Rattle.primitive.specs.Text.{lower, lowered, letter, past, some, starts, tag, byte}
 use Rattle.primitive.specs.Primitive.{alpha1}
 use Rattle.dates.specs.Date.{word_dot}
@@ -36,7 +36,7 @@ pub part_and_byte : (b : ℕ) (text : List ℕ) (at end n : ℕ) → at ≤ end 
 unfolding tag starts
 part_and_byte b text at end n h = by (drop end text) refl
   where
-    found : (x : ℕ) (xs : List ℕ) → drop end text ≡ x ∷ xs → (t : Bool) → eqb x b ≡ t → ◌≡◌ {A = Answer (Unit {0})} (if (t && true) (matched tt (end + 1)) none) (matched tt n) →
+    found : (x : ℕ) (xs : List ℕ) → drop end text ≡ x ∷ xs → (t : Bool) → eqb x b ≡ t → ◌≡◌ {A = Answer (Unit {0})} (cond (t && true) (matched tt (end + 1)) none) (matched tt n) →
         slice at n text ≡ slice at end text ++ (b ∷ [])
     found x xs d true q e =
         let m : n ≡ end + 1 = cc in
@@ -54,7 +54,7 @@ part_and_byte b text at end n h = by (drop end text) refl
         clash : ◌≡◌ {A = ℕ} 0 1 → ⊥
         clash z = omega arith
 
-    by : (l : List ℕ) → drop end text ≡ l → ◌≡◌ {A = Answer (Unit {0})} (if (starts (b ∷ []) l) (matched tt (end + 1)) none) (matched tt n) → slice at n text ≡ slice at end text ++ (b ∷ [])
+    by : (l : List ℕ) → drop end text ≡ l → ◌≡◌ {A = Answer (Unit {0})} (cond (starts (b ∷ []) l) (matched tt (end + 1)) none) (matched tt n) → slice at n text ≡ slice at end text ++ (b ∷ [])
     by [] d e = let z : ◌≡◌ {A = ℕ} 0 1 = cc in absurd (clash z)
       where
         clash : ◌≡◌ {A = ℕ} 0 1 → ⊥
@@ -72,7 +72,7 @@ module _ (text : List ℕ) (at : ℕ) where
     unfolding alpha1 some
     word_is = go (ltb at (past letter text at)) refl read
       where
-        go : (t : Bool) → ltb at (past letter text at) ≡ t → matched w end ≡ if t (matched (slice at (past letter text at) text) (past letter text at)) none → (w ≡ slice at end text) × (at < end)
+        go : (t : Bool) → ltb at (past letter text at) ≡ t → matched w end ≡ cond t (matched (slice at (past letter text at) text) (past letter text at)) none → (w ≡ slice at end text) × (at < end)
         go true q e = let z : end ≡ past letter text at = cc in let y : w ≡ slice at (past letter text at) text = cc in (rw z y, rw z (ltb-true at (past letter text at) q))
         go false q e = let z : ◌≡◌ {A = ℕ} 0 1 = cc in (absurd (clash z), absurd (clash z))
           where

@@ -1,13 +1,13 @@
 -- Laws of digits as years: widening makes no year smaller, and the year is that of the number that was parsed. Assumes nothing.
 use Prim.Native.Nat.{ℕ, ◌+◌, ◌<◌, ◌≤◌}
 use mathlib.Core.Path.{◌≡◌, refl, sym}
-use mathlib.Core.Bool.{Bool, true, false}
+use mathlib.Core.Bool.{Bool, true, false, cond}
 use mathlib.Core.List.{List}
 use native.Mathlib.Omega.{arith}
 use lib.Dec.{leb, eqb}
 use lib.ListN.{length}
 use borrow.Author.Tests.{leb-true, leb-false, le-leb, lt-leb}
-use Rattle.primitive.specs.Answer.{matched, none, if}
+use Rattle.primitive.specs.Answer.{matched, none}
 use Rattle.primitive.specs.Primitive.{decimal, parse_uint}
 use Rattle.dates.specs.Year.{widened_by, year_from_str}
 
@@ -15,7 +15,7 @@ pub widened_up : (k y : ℕ) → y ≤ widened_by k y
 unfolding widened_by
 widened_up k y = by (eqb k 2) (leb y 68)
   where
-    by : (a b : Bool) → y ≤ if a (if b (y + 2000) (y + 1900)) y
+    by : (a b : Bool) → y ≤ cond a (cond b (y + 2000) (y + 1900)) y
     by true true = omega arith
     by true false = omega arith
     by false b = omega arith
@@ -26,7 +26,7 @@ module _ (max : ℕ) (w text : List ℕ) (at : ℕ) where
   unfolding parse_uint
   parsed_none = by (leb (decimal w) max) refl
     where
-      by : (t : Bool) → leb (decimal w) max ≡ t → none ≡ if t (matched (decimal w) at) none → max < decimal w
+      by : (t : Bool) → leb (decimal w) max ≡ t → none ≡ cond t (matched (decimal w) at) none → max < decimal w
       by true p e = let z : ◌≡◌ {A = ℕ} 0 1 = cc in omega arith
       by false p e = leb-false (decimal w) max p
 
@@ -34,7 +34,7 @@ module _ (max : ℕ) (w text : List ℕ) (at : ℕ) where
   unfolding parse_uint
   parsed_is v n = by (leb (decimal w) max) refl
     where
-      by : (t : Bool) → leb (decimal w) max ≡ t → matched v n ≡ if t (matched (decimal w) at) none → (v ≡ decimal w) × (decimal w ≤ max)
+      by : (t : Bool) → leb (decimal w) max ≡ t → matched v n ≡ cond t (matched (decimal w) at) none → (v ≡ decimal w) × (decimal w ≤ max)
       by true p e = (cc, leb-true (decimal w) max p)
       by false p e = let z : ◌≡◌ {A = ℕ} 0 1 = cc in (omega arith, omega arith)
 

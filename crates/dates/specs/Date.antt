@@ -1,10 +1,10 @@
 -- Calendar dates, as in items/date.rs and section 29.2 of the manual. No reader of dates stops.
-use Rattle.std.specs.Prelude.{ℕ, ◌-◌, List, [], ◌∷◌, ◌++◌, Bool, ◌&&◌, length, take, drop, leb, Option, Some, None}
+use Rattle.std.specs.Prelude.{ℕ, ◌-◌, List, [], ◌∷◌, ◌++◌, Bool, ◌&&◌, length, take, drop, leb, Option, Some, None, cond}
 use Prim.Native.String.{String}
 use Rattle.std.specs.Borrow.{Bor}
 use Rattle.std.proofs.Math.Seq.{slice}
 use Rattle.extended.specs.Calendar.{month_days}
-use Rattle.primitive.specs.Answer.{Answer, Reader, matched, none, if, and_then, ◌>>=◌, ◌>>◌, ◌<|>◌, pure, value, optional, verify}
+use Rattle.primitive.specs.Answer.{Answer, Reader, matched, none, and_then, ◌>>=◌, ◌>>◌, ◌<|>◌, pure, value, optional, verify}
 use Rattle.primitive.specs.Text.{lowered, char}
 use Rattle.primitive.specs.Primitive.{multispace1, spaced, parse_uint, dec_uint_str, dec_uint, alpha1, named}
 use Rattle.dates.specs.Year.{year_from_str, year_str}
@@ -27,30 +27,30 @@ unfoldable pub without_year : ℕ → ℕ → Reader Date
 without_year m d = verify (exists 2000 m d) (date_of None m d)
 
 -- the digits of a year, where there is one
-pub data Written : Type 0 where
-  written : List ℕ → Written
-  unwritten : Written
+pub data WrittenYear : Type 0 where
+  written : List ℕ → WrittenYear
+  unwritten : WrittenYear
 
-unfoldable pub dated : Written → ℕ → ℕ → Reader Date
+unfoldable pub dated : WrittenYear → ℕ → ℕ → Reader Date
 dated (written w) m d = with_year w m d
 dated unwritten m d = without_year m d
 
 -- what has to stand behind a year
 unfoldable pub end_of_text : Reader (Unit {0})
-end_of_text text at = if (leb (length text) at) (matched tt at) none
+end_of_text text at = cond (leb (length text) at) (matched tt at) none
 
 unfoldable pub blank_or_end : Reader (Unit {0})
 blank_or_end = value tt multispace1 <|> end_of_text
 
 -- a year with a blank or the end of the text behind it
-unfoldable pub ended : Reader Written
+unfoldable pub ended : Reader WrittenYear
 ended = do
   w ← year_str
   blank_or_end
   pure (written w)
 
 -- such a year behind what p reads, or none
-unfoldable pub ended_year : Reader (Unit {0}) → Reader Written
+unfoldable pub ended_year : Reader (Unit {0}) → Reader WrittenYear
 ended_year p = optional unwritten (p >> ended)
 
 -- the date with such a year or without one
@@ -90,7 +90,7 @@ iso1 = do
   with_year w m d
 
 unfoldable pub five_digits : List ℕ → Reader (Unit {0})
-five_digits w text at = if (leb 5 (length w)) (matched tt at) none
+five_digits w text at = cond (leb 5 (length w)) (matched tt at) none
 
 -- `20221114`: five digits or more, the last four of them month and day, no space in front
 unfoldable pub iso2 : Reader Date
@@ -103,14 +103,14 @@ iso2 = do
 
 -- 29.2: "The construct 'month/day/year', popular in the United States, is accepted. Also 'month/day', omitting the year."
 -- The Rust takes the first number as the year if it has 4 digits or more.
-unfoldable pub us_date : List ℕ → ℕ → Written → Reader Date
+unfoldable pub us_date : List ℕ → ℕ → WrittenYear → Reader Date
 us_date w n (written v) =
-    if (leb 4 (length w))
+    cond (leb 4 (length w))
     (parse_uint 255 v >>= λ d. with_year w n d)
     (parse_uint 255 w >>= λ m. with_year v m n)
 us_date w n unwritten = parse_uint 255 w >>= λ m. without_year m n
 
-unfoldable pub slash_part : Reader Written
+unfoldable pub slash_part : Reader WrittenYear
 slash_part = optional unwritten (do
   spaced (char "/")
   v ← year_str
@@ -182,10 +182,10 @@ parse_non_iso = dotted <|> (us <|> literal)
 
 -- ---- the code's answers
 -- a year that may be absent: its digits, and the place behind
-abbrev pub year_answer : ℕ → Option (Bor (List ℕ) × ℕ) → Answer Written
+abbrev pub year_answer : ℕ → Option (Bor (List ℕ) × ℕ) → Answer WrittenYear
 year_answer at (Some y) = matched (written (lowered y.0.now)) y.1
 year_answer at None = matched unwritten at
 
 -- the date of an answered year
-unfoldable pub written_at : Answer Written → ℕ → ℕ → List ℕ → Answer Date
+unfoldable pub written_at : Answer WrittenYear → ℕ → ℕ → List ℕ → Answer Date
 written_at a m d text = and_then a (λ y n. dated y m d text n)

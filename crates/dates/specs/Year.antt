@@ -1,13 +1,13 @@
 -- A year from its digits, as in items/year.rs.
-use Rattle.std.specs.Prelude.{ℕ, ◌+◌, List, length, leb, eqb}
-use Rattle.extended.specs.Extended.{last_year}
-use Rattle.primitive.specs.Answer.{Reader, if, verify}
+use Rattle.std.specs.Prelude.{ℕ, ◌+◌, List, length, leb, eqb, cond}
+use Rattle.answers.specs.Limits.{last_year}
+use Rattle.primitive.specs.Answer.{Reader, verify}
 use Rattle.primitive.specs.Primitive.{spaced, decimal, dec_uint_str}
 
 -- 29.2: "If year is 68 or smaller, then 2000 is added to it; otherwise, if year is less than 100, then 1900 is added to it."
 -- The Rust does so only for a year of two digits (document 01, items/year.rs).
 unfoldable pub widened_by : ℕ → ℕ → ℕ
-widened_by digits y = if (eqb digits 2) (if (leb y 68) (y + 2000) (y + 1900)) y
+widened_by digits y = cond (eqb digits 2) (cond (leb y 68) (y + 2000) (y + 1900)) y
 
 abbrev pub widened : List ℕ → ℕ
 widened w = widened_by (length w) (decimal w)

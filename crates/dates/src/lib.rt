@@ -1,7 +1,6 @@
-// Years, as in items/year.rs, and what calendar dates are. Their readers stand on this crate; the definitions and laws of these are here. A
-// reader takes a text and a place in it, any place, and answers a date with the next place, or no match; none stops.
+// What calendar dates are, as in items/date.rs and year.rs. The definitions and laws of their readers are here; the readers are in `date_parts`
+// (years, days that exist), `month_names`, `named_month_dates` and `date_readers`.
 
 #![tactic(auto)]
 
 pub mod date;
-pub mod year;

@@ -33,7 +33,7 @@ pub fn fraction(s: &[u8], at: usize) -> Option<(u32, usize, bool)>
 fn point_or_comma(s: &[u8], at: usize) -> Option<usize>
     ensures { place_answer result ≡ point_or_comma (lowered s.now) at }
 {
-    primitive::byte(s, at, 46).or_else(|| primitive::byte(s, at, 44))
+    primitive::byte(s, at, b'.').or_else(|| primitive::byte(s, at, b','))
 }
 
 // The value of nine digits: those that are given, and zeros behind them where there are fewer.
@@ -46,7 +46,7 @@ fn nanoseconds(digits: &[u8]) -> u32
     // nine turns, whatever digits there are
     for k in 0..9 {
         if k < digits.len() {
-            acc = acc * 10 + u32::from(digits[k] - 48);
+            acc = acc * 10 + u32::from(digits[k] - b'0');
         } else {
             acc *= 10;
         }
@@ -60,7 +60,7 @@ fn lost(digits: &[u8]) -> bool
     ensures { result ≡ lost (lowered digits.now) }
 {
     for i in 9..digits.len() {
-        if digits[i] != 48 {
+        if digits[i] != b'0' {
             return true;
         }
     }

@@ -10,13 +10,13 @@ use lib.Signed.{mag}
 use mir.Syntax.{w64}
 use mir.Val.{SFits}
 use borrow.Author.Tests.{lt-ltb, ltb-true, ltb-false}
-use Rattle.integers.specs.Integers.{raised, sum, product, in_i64, fits_if}
+use Rattle.integers.specs.Integers.{sum, product, in_i64, fits_if}
 use Rattle.integers.proofs.Differences.{diff_pos, diff_sub}
-use Rattle.integers.proofs.Range.{as_diff, raised_near, diff_near, less_diff, fits_in}
-use Rattle.extended.specs.Outcome.{accepted, check, ◌>>=◌, ◌>>◌}
+use Rattle.integers.proofs.Range.{raised, as_diff, raised_near, diff_near, less_diff, fits_in}
+use Rattle.answers.specs.Outcome.{accepted, check, ◌>>=◌, ◌>>◌}
 use Rattle.extended.specs.Extended.{checked, test, moment, clock_seconds, from_unix_seconds, carried, add_seconds, add_units, add_days}
 use Rattle.extended.specs.declared.ExtendedDateTime.{ExtendedDateTime}
-use Rattle.extended.proofs.Outcomes.{first_passed}
+use Rattle.answers.proofs.Outcomes.{first_passed}
 use Rattle.extended.proofs.Records.{Accepted, facts, tested, clock_bound, offset_near}
 use Rattle.extended.proofs.Moments.{from_moment, given, Given, fits_passed, sum_passed}
 

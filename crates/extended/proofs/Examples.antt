@@ -4,7 +4,7 @@ use Prim.Native.Nat.{ℕ}
 use mathlib.Core.Path.{◌≡◌, refl, sym, ap, ◌∙◌}
 use lib.IntN.{ℤ, pos, negsuc, ◌+ℤ◌, ◌*ℤ◌}
 use Rattle.integers.specs.Integers.{sum, natural_of}
-use Rattle.extended.specs.Outcome.{accepted, refused}
+use Rattle.answers.specs.Outcome.{accepted, refused}
 use Rattle.calendar.specs.Calendar.{leap, year_days, days_before_year, month_days, days_of_months, day_number, ymd, next_day, civil}
 use Rattle.extended.specs.Extended.{make, date, time, test, test_date, test_time, test_offset, test_year, accept, clock_seconds, moment, from_unix_seconds, with_date, clamp, add_days, add_years, add_months}
 use Rattle.extended.specs.declared.ExtendedDateTime.{ExtendedDateTime}

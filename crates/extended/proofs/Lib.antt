@@ -1,6 +1,5 @@
 -- The laws and theorems of the crate `extended`.
 pub mod Counting
-pub mod Outcomes
 pub mod Records
 pub mod Moments
 pub mod Adding

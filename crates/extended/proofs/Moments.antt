@@ -11,13 +11,13 @@ use borrow.Author.Tests.{le-leb, leb-true}
 use Rattle.integers.specs.Integers.{sum, natural_of, in_i64, fits_if}
 use Rattle.integers.proofs.Differences.{diff_pos, diff_sub}
 use Rattle.integers.proofs.Range.{diff_fits, fits_in}
-use Rattle.extended.specs.Outcome.{Outcome, accepted, check, ◌>>=◌}
+use Rattle.answers.specs.Outcome.{Outcome, accepted, check, ◌>>=◌}
 use Rattle.calendar.specs.Calendar.{day_number, civil, ymd}
 use Rattle.extended.specs.Extended.{checked, from_zero, make, date, time, test_offset, test_year, clock_seconds, moment, clock_record, from_clock, from_unix_seconds}
 use Rattle.calendar.specs.declared.Civil.{Civil}
 use Rattle.extended.specs.declared.ExtendedDateTime.{ExtendedDateTime}
 use Rattle.calendar.proofs.Dates.{place, back}
-use Rattle.extended.proofs.Outcomes.{apart, same, check_true, first_passed}
+use Rattle.answers.proofs.Outcomes.{apart, same, check_true, first_passed}
 use Rattle.extended.proofs.Records.{Accepted, year_fact, year_test, clock_bound}
 
 -- ---- the clock of a record, and the record of a clock

@@ -7,14 +7,14 @@ use lib.Dec.{leb}
 use lib.IntN.{ℤ, pos, negsuc}
 use lib.Signed.{le_z, mag}
 use borrow.Author.Tests.{leb-true, le-leb}
-use Rattle.extended.specs.Outcome.{accepted, check, ◌>>◌}
+use Rattle.answers.specs.Outcome.{accepted, check, ◌>>◌}
 use Rattle.calendar.specs.Calendar.{month_days, Valid, ymd}
 use Rattle.extended.specs.Extended.{date_of, time_of, test_date, test_time, test_offset, test, test_year, clock_seconds}
 use Rattle.calendar.specs.declared.Civil.{Civil}
 use Rattle.extended.specs.declared.TimeParts.{TimeParts}
 use Rattle.extended.specs.declared.ExtendedDateTime.{ExtendedDateTime}
 use Rattle.calendar.proofs.Counting.{and_left, and_right, month_bound, day_bound}
-use Rattle.extended.proofs.Outcomes.{Proper, check_proper, then_proper, check_true, first_passed}
+use Rattle.answers.proofs.Outcomes.{Proper, check_proper, then_proper, check_true, first_passed}
 
 -- ---- the tests by name
 abbrev year_ok : Civil ℕ → Bool

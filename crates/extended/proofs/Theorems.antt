@@ -5,7 +5,7 @@ use mathlib.Core.Path.{◌≡◌, refl, sym, ap, ap₂, ◌∙◌}
 use mathlib.Core.Logic.{◌↔◌}
 use native.Mathlib.Omega.{arith}
 use lib.IntN.{ℤ, pos, ◌+ℤ◌, ◌*ℤ◌}
-use Rattle.extended.specs.Outcome.{accepted, refused}
+use Rattle.answers.specs.Outcome.{accepted, refused}
 use Rattle.calendar.specs.Calendar.{leap, year_days, days_before_year, days_of_months, day_number, Valid, next_day, civil, next_weekday, weekday}
 use Rattle.extended.specs.Calendar.{monday_weekday, sunday_weekday}
 use Rattle.extended.specs.Extended.{make, time, date_of, test, clock_seconds, moment, from_unix_seconds, add_seconds, add_units, add_days, add_hours, add_minutes}
@@ -13,7 +13,7 @@ use Rattle.calendar.specs.declared.Civil.{Civil}
 use Rattle.extended.specs.declared.ExtendedDateTime.{ExtendedDateTime}
 use Rattle.calendar.proofs.Counting.{weekday_closed}
 use Rattle.calendar.proofs.Dates.{day_of, place, unique, number_next}
-use Rattle.extended.proofs.Outcomes.{apart}
+use Rattle.answers.proofs.Outcomes.{apart}
 use Rattle.extended.proofs.Records.{facts, tested}
 use Rattle.extended.proofs.Moments.{from_moment, given}
 use Rattle.extended.proofs.Adding.{seconds_to, seconds_from, units_to, units_from}

@@ -1,8 +1,10 @@
 -- What the functions of `extended` answer: document 01, 'extended.rs' and 'Answers by number'.
+use Rattle.answers.specs.Numbers as refusal
+use Rattle.answers.specs.Limits.{last_year}
 use Rattle.std.specs.Prelude.{ℕ, ◌+◌, ◌-◌, ◌*◌, ◌/◌, ◌%◌, min, ◌&&◌, cond, ltb, leb, ℤ, pos, negsuc, ◌+ℤ◌, ◌-ℤ◌, Option, Some, None}
 use Rattle.std.specs.Int.Signed.{le_z}
 use Rattle.integers.specs.Integers.{sum, product, natural_of}
-use Rattle.extended.specs.Outcome.{Outcome, accepted, refused, check, ◌>>=◌, ◌>>◌}
+use Rattle.answers.specs.Outcome.{Outcome, accepted, refused, check, ◌>>=◌, ◌>>◌}
 use Rattle.calendar.specs.Calendar.{month_days, days_of_months, day_number, civil}
 use Rattle.extended.specs.Calendar.{monday_weekday, sunday_weekday}
 use Rattle.calendar.specs.declared.Civil.{Civil}
@@ -13,12 +15,12 @@ use Rattle.extended.specs.declared.ExtendedDateTime.{ExtendedDateTime}
 -- "an overflow the Rust names" is 18
 abbrev pub checked : Option ℤ → Outcome ℤ
 checked (Some z) = accepted z
-checked None = refused 18
+checked None = refused refusal.sum
 
 -- "year below 0" is 10
 abbrev pub from_zero : Option ℕ → Outcome ℕ
 from_zero (Some n) = accepted n
-from_zero None = refused 10
+from_zero None = refused refusal.under
 
 -- ---- records
 -- the one place where a record is put together
@@ -39,30 +41,26 @@ abbrev pub time_of : ExtendedDateTime → TimeParts
 time_of r = time r.hour r.minute r.second r.nanosecond
 
 -- the blank record: "eight zeros"
-abbrev pub blank : ExtendedDateTime
-blank = make (date 0 0 0) (time 0 0 0 0) (pos 0)
-
--- "2147485547 is the last year"
-abbrev pub last_year : ℕ
-last_year = 2147485547
+abbrev pub blank_record : ExtendedDateTime
+blank_record = make (date 0 0 0) (time 0 0 0 0) (pos 0)
 
 -- the tests of `new`, in their order
 unfoldable pub test_date : Civil ℕ → Outcome (Unit {0})
 test_date d = do
-  check (leb d.year last_year) 9
-  check (leb 1 d.month && leb d.month 12) 11
-  check (leb 1 d.day && leb d.day (month_days d.year d.month)) 12
+  check (leb d.year last_year) refusal.over
+  check (leb 1 d.month && leb d.month 12) refusal.month
+  check (leb 1 d.day && leb d.day (month_days d.year d.month)) refusal.day
 
 unfoldable pub test_time : TimeParts → Outcome (Unit {0})
 test_time t = do
-  check (leb t.hour 23) 13
-  check (leb t.minute 59) 14
-  check (leb t.second 59) 15
-  check (leb t.nanosecond 999999999) 16
+  check (leb t.hour 23) refusal.hour
+  check (leb t.minute 59) refusal.minute
+  check (leb t.second 59) refusal.second
+  check (leb t.nanosecond 999999999) refusal.nanosecond
 
 -- "the offset runs from -86400 to 86400"; -86400 is written -1 - 86399
 unfoldable pub test_offset : ℤ → Outcome (Unit {0})
-test_offset o = check (le_z (negsuc 86399) o && le_z o (pos 86400)) 17
+test_offset o = check (le_z (negsuc 86399) o && le_z o (pos 86400)) refusal.offset
 
 unfoldable pub test : ExtendedDateTime → Outcome (Unit {0})
 test r = do
@@ -93,8 +91,8 @@ unix_seconds r = do
 -- 9 above the last year; "A year above 4294967295 gets 10"
 unfoldable pub test_year : ℕ → Outcome (Unit {0})
 test_year y = do
-  check (leb y 4294967295) 10
-  check (leb y last_year) 9
+  check (leb y 4294967295) refusal.under
+  check (leb y last_year) refusal.over
 
 -- the record whose own clock is s seconds past 0000-01-01 00:00:00
 unfoldable pub clock_record : ℕ → ℕ → ℤ → ExtendedDateTime
@@ -110,7 +108,7 @@ from_clock s n o = do
 -- "tests nanosecond, offset, the sum, then the year"
 unfoldable pub from_unix_seconds : ℤ → ℕ → ℤ → Outcome ExtendedDateTime
 from_unix_seconds u n o = do
-  check (leb n 999999999) 16
+  check (leb n 999999999) refusal.nanosecond
   test_offset o
   local ← checked (sum u o)
   clock ← from_zero (natural_of (local +ℤ pos 62167219200))
@@ -144,7 +142,7 @@ unfoldable pub add_seconds : ExtendedDateTime → ℤ → ℕ → Outcome Extend
 add_seconds r d k = do
   test r
   s ← checked (sum (moment r) d)
-  check (ltb (r.nanosecond + k) 4294967296) 18
+  check (ltb (r.nanosecond + k) 4294967296) refusal.sum
   carried s (r.nanosecond + k) r.offset_seconds
 
 -- n units of so many seconds each

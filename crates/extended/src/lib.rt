@@ -6,16 +6,12 @@
 #![tactic(auto)]
 
 ghost use Rattle.std.specs.Prelude.{◌≡◌};
-ghost use Rattle.extended.specs.Refusals.{outcome_of};
-ghost use Rattle.extended.specs.Extended.{make, blank, date, time, date_of, time_of, test_date, test_time, test_offset, test, test_year, accept, with_date, with_time, with_offset};
-
-mod refusals;
+ghost use Rattle.answers.specs.Refusals.{outcome_of};
+ghost use Rattle.extended.specs.Extended.{make, blank_record, date, time, date_of, time_of, test_date, test_time, test_offset, test, test_year, accept, with_date, with_time, with_offset};
 
 pub use calendar::{Civil, MonthDay, days_in_month, is_leap_year};
-pub use refusals::{PlacedRefusal, Refusal};
 
-// The largest year that is accepted.
-pub const GNU_MAX_YEAR: u32 = 2147485547;
+use answers::{GNU_MAX_YEAR, Refusal};
 
 #[repr(C)]
 #[derive(Clone, Copy, Default)]
@@ -58,7 +54,7 @@ impl ExtendedDateTime {
     // Eight zeros: the record of a refusal.
     #[tactic(auto, unfolding(crate::specs::Extended::make))]
     pub fn blank() -> ExtendedDateTime
-        ensures { result ≡ blank }
+        ensures { result ≡ blank_record }
     {
         ExtendedDateTime::default()
     }

@@ -1,4 +1,4 @@
-// Items heeded one after the other, as in items/builder.rs: each is set under the rules, and the first broken rule stays. A pure number,
+// Items gathered one after the other, as in items/builder.rs: each is set under the rules, and the first broken rule stays. A pure number,
 // which comes by packet only, is the year of a date that has none, or else a time.
 
 #![tactic(auto)]
@@ -6,13 +6,13 @@
 ghost use Rattle.std.specs.Prelude.{◌≡◌, ℕ, List, ◌+◌, ◌<◌, ◌≤◌, [], ◌++◌, length};
 ghost use Rattle.std.proofs.Math.Seq.{slice};
 ghost use Rattle.primitive.specs.Text.{lowered};
-ghost use Rattle.extended.specs.Placed.{fine};
-ghost use Rattle.extended.specs.Refusals.{code, outcome_of, placed_of};
-ghost use Rattle.rules.specs.Rules.{empty, set_time, set_pure_year, set_pure_time, set_pure, set_item, rule_place, onward, heed, relative_of, clock, set_hour, set_hour_and_minute};
+ghost use Rattle.answers.specs.Placed.{fine};
+ghost use Rattle.answers.specs.Refusals.{code, outcome_of, placed_of};
+ghost use Rattle.rules.specs.Rules.{empty, set_time, set_pure_year, set_pure_time, set_pure, set_item, rule_place, onward, add_item, relative_of, clock, set_hour, set_hour_and_minute};
 
 use arrayvec::ArrayVec;
 use dates::date::Date;
-use extended::{PlacedRefusal, Refusal};
+use answers::{MOST_ITEMS, PlacedRefusal, Refusal};
 use items::{Item, Pure};
 use relative::Relative;
 use rules::{DateTimeBuilder, Zone};
@@ -20,31 +20,31 @@ use times::time::Time;
 
 // What the items give so far: the builder that they make, or the first broken rule, and the relative ones, 64 at most.
 #[derive(Drop)]
-pub struct Heeded {
-    pub standing: Result<DateTimeBuilder, PlacedRefusal>,
-    pub relatives: ArrayVec<Relative, 64>,
+pub struct Gathered {
+    pub builder: Result<DateTimeBuilder, PlacedRefusal>,
+    pub relatives: ArrayVec<Relative, MOST_ITEMS>,
 }
 
-impl Heeded {
+impl Gathered {
     // No item yet.
-    pub fn new() -> Heeded
-        ensures standing { placed_of result.standing ≡ fine empty }
+    pub fn new() -> Gathered
+        ensures builder { placed_of result.builder ≡ fine empty }
         ensures relatives { result.relatives.items ≡ [] }
     {
-        Heeded {
-            standing: Ok(DateTimeBuilder::new()),
+        Gathered {
+            builder: Ok(DateTimeBuilder::new()),
             relatives: ArrayVec::new(),
         }
     }
 
     // One item more, and its index. A relative item is kept behind the others, of which there are 64 at most.
-    pub fn heed(&mut self, digits: &[u8], item: Item, index: usize)
-        ensures standing { placed_of self.new.standing ≡ heed (lowered digits.now) index item (placed_of self.old.standing) }
+    pub fn add_item(&mut self, digits: &[u8], item: Item, index: usize)
+        ensures builder { placed_of self.new.builder ≡ add_item (lowered digits.now) index item (placed_of self.old.builder) }
         ensures kept { length self.old.relatives.items < 64 → self.new.relatives.items ≡ self.old.relatives.items ++ relative_of item }
         ensures full { 64 ≤ length self.old.relatives.items → self.new.relatives.items ≡ self.old.relatives.items }
         ensures few { length self.new.relatives.items ≤ length self.old.relatives.items + 1 }
     {
-        self.standing = under_rules(self.standing, digits, item, index);
+        self.builder = under_rules(self.builder, digits, item, index);
         if let Item::Relative(relative) = item {
             if !self.relatives.is_full() {
                 self.relatives.push(relative);
@@ -54,14 +54,14 @@ impl Heeded {
 }
 
 // The rules of one item more. The first broken one stays.
-#[tactic(auto, unfolding(rules::specs::Rules::heed))]
+#[tactic(auto, unfolding(rules::specs::Rules::add_item))]
 fn under_rules(
     standing: Result<DateTimeBuilder, PlacedRefusal>,
     digits: &[u8],
     item: Item,
     index: usize,
 ) -> Result<DateTimeBuilder, PlacedRefusal>
-    ensures { placed_of result ≡ heed (lowered digits.now) index item (placed_of standing) }
+    ensures { placed_of result ≡ add_item (lowered digits.now) index item (placed_of standing) }
 {
     let builder = standing?;
     set_item(builder, digits, item).map_err(|refusal| refusal.at(rule_place(refusal, index)))
@@ -118,7 +118,7 @@ fn set_pure_year(
 ) -> Result<DateTimeBuilder, Refusal>
     ensures { (digits : List ℕ) (from to : ℕ) → lowered year.now ≡ slice from to digits → outcome_of result ≡ set_pure_year digits builder date from to }
 {
-    let year = dates::year::year_from_str(year).ok_or(Refusal::Over)?;
+    let year = date_parts::year::year_from_str(year).ok_or(Refusal::Over)?;
     let date = Date {
         year: Some(year),
         ..date

@@ -1,21 +1,21 @@
 -- What hosts are answered: document 01, 'Answers by number'.
 use Rattle.std.specs.Prelude.{ℕ, ℤ, pos}
-use Rattle.extended.specs.Outcome.{Outcome, number, value_or}
-use Rattle.extended.specs.Extended.{blank}
+use Rattle.answers.specs.Outcome.{Outcome, number, value_or}
+use Rattle.extended.specs.Extended.{blank_record}
 use Rattle.extended.specs.declared.ExtendedDateTime.{ExtendedDateTime}
-use Rattle.extended.specs.Placed as placed
-use Rattle.extended.specs.Placed.{Placed, number_of, place_of}
+use Rattle.answers.specs.Placed as placed
+use Rattle.answers.specs.Placed.{Placed, number_of, place_of}
 use Rattle.host_answers.specs.declared.Answer.{Answer}
 use Rattle.host_answers.specs.declared.Moment.{Moment}
 use Rattle.host_answers.specs.declared.Number.{Number}
 
 -- "0 is a record. Else the record is blank: eight zeros"; a number from 9 to 18 has place 0
 unfoldable pub record_answer : Outcome ExtendedDateTime → Answer
-record_answer o = record { number = number o; place = 0; «record» = value_or blank o }
+record_answer o = record { number = number o; place = 0; «record» = value_or blank_record o }
 
 -- the same of an answer that has a place
 unfoldable pub placed_answer : Placed ExtendedDateTime → Answer
-placed_answer p = record { number = number_of p; place = place_of p; «record» = placed.value_or blank p }
+placed_answer p = record { number = number_of p; place = place_of p; «record» = placed.value_or blank_record p }
 
 -- "where a length, a moment or another number was wanted, it is 0"
 unfoldable pub moment_answer : Outcome ℤ → Moment

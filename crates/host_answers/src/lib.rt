@@ -3,10 +3,11 @@
 #![tactic(auto)]
 
 ghost use Rattle.std.specs.Prelude.{◌≡◌};
-ghost use Rattle.extended.specs.Refusals.{outcome_of};
+ghost use Rattle.answers.specs.Refusals.{outcome_of};
 ghost use Rattle.host_answers.specs.Hosts.{record_answer, moment_answer, number_answer};
 
-use extended::{ExtendedDateTime, Refusal};
+use answers::Refusal;
+use extended::ExtendedDateTime;
 
 pub type Record = ExtendedDateTime;
 

@@ -11,8 +11,13 @@ use mir.Syntax.{w64}
 use mir.Val.{SFits}
 use borrow.Author.Tests.{ltb-true, ltb-false, lt-ltb, lt-leb, le-leb}
 use Rattle.integers.proofs.Differences.{is_pos, is_neg, Shape, up, down, shape, diff_eq, diff_sub}
-use Rattle.integers.specs.Integers.{raised, in_i64, in_i32, fits_if}
+use Rattle.integers.specs.Integers.{in_i64, in_i32, fits_if}
 use Rattle.std.specs.Prelude.{Some}
+
+-- z + 2^63, for a z that is not below -2^63
+unfoldable pub raised : ℤ → ℕ
+raised (pos n) = 9223372036854775808 + n
+raised (negsuc n) = 9223372036854775808 - suc n
 
 -- a number of the range is its raised number less 2^63
 pub as_diff : (x : ℤ) → SFits w64 x → x ≡ sub_ℕ (raised x) 9223372036854775808

@@ -1,11 +1,6 @@
--- What the functions of `integers` compute, in whole numbers without bound.
-use Rattle.std.specs.Prelude.{ℕ, suc, ◌+◌, ◌-◌, ◌^◌, Bool, true, false, ◌&&◌, ltb, ℤ, pos, negsuc, ◌+ℤ◌, ◌*ℤ◌, Option, Some, None}
+-- Sums and products in whole numbers without bound, and which of them an i64 or an i32 can represent.
+use Rattle.std.specs.Prelude.{ℕ, ◌+◌, ◌^◌, Bool, true, false, ◌&&◌, ltb, ℤ, pos, negsuc, ◌+ℤ◌, ◌*ℤ◌, Option, Some, None}
 use Rattle.std.specs.Int.Signed.{mag, le_z}
-
--- z + 2^63, for a z that is not below -2^63
-unfoldable pub raised : ℤ → ℕ
-raised (pos n) = 2 ^ 63 + n
-raised (negsuc n) = 2 ^ 63 - suc n
 
 -- whether z is one of the numbers from -2^63 to 2^63 - 1: `mag` is n both for n and for -1 - n
 abbrev pub in_i64 : ℤ → Bool
@@ -15,7 +10,7 @@ abbrev pub fits_if : Bool → ℤ → Option ℤ
 fits_if true z = Some z
 fits_if false z = None
 
--- a + b and a × b, where an i64 holds them
+-- a + b and a × b, where an i64 can represent them
 unfoldable pub sum : ℤ → ℤ → Option ℤ
 sum a b = fits_if (in_i64 (a +ℤ b)) (a +ℤ b)
 

@@ -2,6 +2,8 @@
 
 #![tactic(auto)]
 
+mod combined;
+
 ghost use Rattle.std.specs.Prelude.{◌≡◌};
 ghost use Rattle.primitive.specs.Text.{lowered};
 ghost use Rattle.primitive.specs.Answer.{answer_of, lossy_answer, lossy_stop_answer};
@@ -11,8 +13,8 @@ use dates::date::Date;
 use items::Item;
 use primitive::Miss;
 
-// The item at a place. The first byte behind the space says what it can be: below 48, the digit 0, it begins no date and no time, and above
-// 57, the digit 9, no ISO date.
+// The item at a place. The first byte after the space says what it can be: below `0` it begins no date and no time, and above `9` no ISO
+// date.
 #[tactic(auto, using(items::proofs::Fronts::fronts))]
 pub fn parse_item(s: &[u8], at: usize) -> Result<(Item, usize, bool), Miss>
     ensures { lossy_stop_answer result ≡ parse_item (lowered s.now) at }
@@ -21,10 +23,10 @@ pub fn parse_item(s: &[u8], at: usize) -> Result<(Item, usize, bool), Miss>
     if s.len() <= start {
         return relative_item(s, start).ok_or(Miss::NoMatch);
     }
-    if s[start] < 48 {
+    if s[start] < b'0' {
         return relative_item(s, start).ok_or(Miss::NoMatch);
     }
-    if 57 < s[start] {
+    if b'9' < s[start] {
         return other_item(s, at);
     }
     number_item(s, at)
@@ -62,7 +64,7 @@ fn iso_date(s: &[u8], at: usize) -> Option<(Date, usize)>
 fn dated_item(s: &[u8], at: usize, date: Date) -> Result<(Item, usize, bool), Miss>
     ensures { lossy_stop_answer result ≡ dated_item date (lowered s.now) at }
 {
-    match items::combined::parse_time_after_date(s, at, date) {
+    match combined::parse_time_after_date(s, at, date) {
         Ok((both, next, dropped)) => Ok((Item::DateTime(both), next, dropped)),
         Err(Miss::NoMatch) => Ok((Item::Date(date), at, false)),
         Err(Miss::Stop) => Err(Miss::Stop),

@@ -3,10 +3,10 @@ use native.Mathlib.Omega.{arith}
 use Prim.Native.Nat.{ℕ, zero, suc}
 use mathlib.Core.Path.{◌≡◌, refl, ap}
 use mathlib.Core.List.{List, [], ◌∷◌, ◌++◌}
-use mathlib.Core.Bool.{Bool, true, false}
+use mathlib.Core.Bool.{Bool, true, false, cond}
 use lib.Dec.{ltb}
 use lib.ListN.{length}
-use Rattle.primitive.specs.Answer.{Answer, matched, dropped, none, stop, if, drops, and_then, or_else, pure, cut}
+use Rattle.primitive.specs.Answer.{Answer, matched, dropped, none, stop, drops, and_then, or_else, pure, cut}
 use Rattle.primitive.specs.Text.{lowered}
 use Rattle.primitive.specs.Primitive.{space}
 use Rattle.primitive.proofs.Lowered.{lowered_twice}
@@ -72,8 +72,8 @@ same_from (suc room) xs text at h = go (ltb (space text at) (length text)) (pars
   where
     go : (t : Bool) (a : Answer Item)
         → ((v : Item) (n : ℕ) → ((items_from parse_item room (xs ++ (v ∷ [])) text n).number ≡ 22 → ⊥) → items_from parse_item room (xs ++ (v ∷ [])) text n ≡ items_from rust_item room (xs ++ (v ∷ [])) text n)
-        → ((if t (further a xs at (λ v n. items_from parse_item room (xs ++ (v ∷ [])) text n)) (ended xs 0 0)).number ≡ 22 → ⊥)
-        → if t (further a xs at (λ v n. items_from parse_item room (xs ++ (v ∷ [])) text n)) (ended xs 0 0) ≡ if t (further (kept a) xs at (λ v n. items_from rust_item room (xs ++ (v ∷ [])) text n)) (ended xs 0 0)
+        → ((cond t (further a xs at (λ v n. items_from parse_item room (xs ++ (v ∷ [])) text n)) (ended xs 0 0)).number ≡ 22 → ⊥)
+        → cond t (further a xs at (λ v n. items_from parse_item room (xs ++ (v ∷ [])) text n)) (ended xs 0 0) ≡ cond t (further (kept a) xs at (λ v n. items_from rust_item room (xs ++ (v ∷ [])) text n)) (ended xs 0 0)
     go false a f h = refl
     go true (matched v n) f h = f v n h
     go true (dropped v n) f h = absurd (h refl)
@@ -85,7 +85,7 @@ rust_from : (room : ℕ) (xs : List Item) (text : List ℕ) (at : ℕ) → (item
 unfolding items_from rust_item
 rust_from zero xs text at = go (ltb (space text at) (length text)) (parse_item text at)
   where
-    go : (t : Bool) (a : Answer Item) → (if t (further (kept (kept a)) xs at (λ v n. ended xs 1 0)) (ended xs 0 0)).number ≡ 22 → ⊥
+    go : (t : Bool) (a : Answer Item) → (cond t (further (kept (kept a)) xs at (λ v n. ended xs 1 0)) (ended xs 0 0)).number ≡ 22 → ⊥
     go true (matched v n) e = omega arith
     go true (dropped v n) e = omega arith
     go true none e = omega arith
@@ -94,7 +94,7 @@ rust_from zero xs text at = go (ltb (space text at) (length text)) (parse_item t
 rust_from (suc room) xs text at = go (ltb (space text at) (length text)) (parse_item text at) (λ v n. rust_from room (xs ++ (v ∷ [])) text n)
   where
     go : (t : Bool) (a : Answer Item) → ((v : Item) (n : ℕ) → (items_from rust_item room (xs ++ (v ∷ [])) text n).number ≡ 22 → ⊥)
-        → (if t (further (kept a) xs at (λ v n. items_from rust_item room (xs ++ (v ∷ [])) text n)) (ended xs 0 0)).number ≡ 22 → ⊥
+        → (cond t (further (kept a) xs at (λ v n. items_from rust_item room (xs ++ (v ∷ [])) text n)) (ended xs 0 0)).number ≡ 22 → ⊥
     go true (matched v n) f e = f v n e
     go true (dropped v n) f e = f v n e
     go true none f e = omega arith

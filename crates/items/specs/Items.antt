@@ -1,6 +1,8 @@
 -- The items of a text, as in items/mod.rs. 29.1: "A date is a string, possibly empty, containing many items separated by whitespace."
-use Rattle.std.specs.Prelude.{ℕ, zero, suc, List, [], ◌∷◌, ◌++◌, length, ltb}
-use Rattle.primitive.specs.Answer.{Answer, Reader, matched, dropped, none, stop, if, ◌>>=◌, ◌<|>◌, pure}
+use Rattle.answers.specs.Numbers as refusal
+use Rattle.answers.specs.Limits.{most_items}
+use Rattle.std.specs.Prelude.{ℕ, zero, suc, List, [], ◌∷◌, ◌++◌, length, ltb, cond}
+use Rattle.primitive.specs.Answer.{Answer, Reader, matched, dropped, none, stop, ◌>>=◌, ◌<|>◌, pure}
 use Rattle.primitive.specs.Primitive.{space}
 use Rattle.dates.specs.Date.{iso1, iso2, parse_non_iso}
 use Rattle.dates.specs.declared.date.Date.{Date}
@@ -79,9 +81,9 @@ ended xs number place = record { items = xs; number = number; place = place }
 -- at the end of the item before.
 abbrev pub further : Answer Item → List Item → ℕ → (Item → ℕ → Parsed) → Parsed
 further (matched v n) xs at f = f v n
-further (dropped v n) xs at f = ended xs 22 at
-further none xs at f = ended xs 3 at
-further stop xs at f = ended xs 4 at
+further (dropped v n) xs at f = ended xs refusal.fraction at
+further none xs at f = ended xs refusal.unread at
+further stop xs at f = ended xs refusal.stopped at
 
 -- the Rust's answer: a digit that is lost changes nothing
 abbrev pub kept : {A : Type 0} → Answer A → Answer A
@@ -94,17 +96,17 @@ kept stop = stop
 -- 1 where one is read beyond them, whether or not it lost a digit.
 unfoldable pub items_from : Reader Item → ℕ → List Item → List ℕ → ℕ → Parsed
 items_from p zero xs text at =
-    if (ltb (space text at) (length text)) (further (kept (p text at)) xs at (λ v n. ended xs 1 0)) (ended xs 0 0)
+    cond (ltb (space text at) (length text)) (further (kept (p text at)) xs at (λ v n. ended xs refusal.oversize 0)) (ended xs 0 0)
 items_from p (suc room) xs text at =
-    if (ltb (space text at) (length text))
+    cond (ltb (space text at) (length text))
     (further (p text at) xs at (λ v n. items_from p room (xs ++ (v ∷ [])) text n)) (ended xs 0 0)
 
 unfoldable pub parse_items : List ℕ → Parsed
-parse_items text = items_from parse_item 64 [] text 0
+parse_items text = items_from parse_item most_items [] text 0
 
 -- the Rust's reading, which gives no 22
 unfoldable pub rust_item : Reader Item
 rust_item text at = kept (parse_item text at)
 
 unfoldable pub rust_items : List ℕ → Parsed
-rust_items text = items_from rust_item 64 [] text 0
+rust_items text = items_from rust_item most_items [] text 0

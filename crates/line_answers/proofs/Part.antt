@@ -8,7 +8,7 @@ use mathlib.Core.Bool.{Bool, true, false}
 use mathlib.Core.List.{List}
 use lib.Dec.{leb}
 use lib.ListN.{length}
-use Rattle.extended.specs.Outcome.{Outcome, accepted, refused, number, value_or, check, ◌>>◌}
+use Rattle.answers.specs.Outcome.{Outcome, accepted, refused, number, value_or, check, ◌>>◌}
 use Rattle.extended.specs.Extended.{test}
 use Rattle.extended.specs.declared.ExtendedDateTime.{ExtendedDateTime}
 use Rattle.writer.specs.Writer.{text_of, whole_minutes, written, bytes_of, written_length, over}

@@ -8,9 +8,9 @@ use mathlib.Core.Path.{◌≡◌, refl, ◌∙◌, ap}
 use mathlib.Core.List.{List, [], ◌∷◌, ◌++◌, append_assoc}
 use lib.ListN.{length, take, drop, set, length-append, take-append-drop}
 use lib.Seq.{length-take-le, set_split, take_at, drop-append-add, drop-append-le, drop-drop}
-use Rattle.extended.specs.Outcome.{Outcome, accepted, refused, number}
-use Rattle.extended.specs.Refusals.{code}
-use Rattle.extended.specs.declared.refusals.Refusal.{Refusal}
+use Rattle.answers.specs.Outcome.{Outcome, accepted, refused, number}
+use Rattle.answers.specs.Refusals.{code}
+use Rattle.answers.specs.declared.Refusal.{Refusal}
 use Rattle.writer.specs.Writer.{fixed, width, digits, bytes_of}
 use Rattle.writer.proofs.Digits.{fixed_length, width_some}
 use Rattle.line_answers.specs.Answers.{refusal_line, written_line, put_at, Put}

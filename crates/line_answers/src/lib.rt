@@ -4,15 +4,16 @@
 #![tactic(auto)]
 
 ghost use Rattle.std.specs.Prelude.{◌≡◌, [], ◌∷◌, ◌+◌, ◌≤◌, ◌<◌, length};
-ghost use Rattle.extended.specs.Outcome.{number, value_or};
-ghost use Rattle.extended.specs.Refusals.{code, outcome_of, placed_of};
+ghost use Rattle.answers.specs.Outcome.{number, value_or};
+ghost use Rattle.answers.specs.Refusals.{code, outcome_of, placed_of};
 ghost use Rattle.writer.specs.Writer.{width, digits, written, bytes_of};
 ghost use Rattle.line_answers.specs.Answers.{refusal_line, written_line, line_answer, Put};
 
-use extended::{ExtendedDateTime, PlacedRefusal, Refusal};
+use answers::{LONGEST_TEXT, PlacedRefusal, Refusal};
+use extended::ExtendedDateTime;
 
-// An answer has no more bytes: number 0, a blank, a text of 41 bytes and byte 10.
-pub const LONGEST_ANSWER: usize = 44;
+// An answer has no more bytes: number 0, a blank, the longest text and byte 10.
+pub const LONGEST_ANSWER: usize = LONGEST_TEXT + 3;
 
 // An answer at the front of the lent place; nothing where the place may be too short for one.
 pub fn put_first(built: Result<ExtendedDateTime, PlacedRefusal>, out: &mut [u8]) -> usize
@@ -58,7 +59,7 @@ fn put_text(record: ExtendedDateTime, out: &mut [u8; LONGEST_ANSWER]) -> Result<
     ensures number_value { (number (outcome_of result) ≡ number (written «record» 41)) × (value_or 0 (outcome_of result) ≤ 41) }
     ensures put { Put (bytes_of (written «record» 41)) 2 out.old (2 + value_or 0 (outcome_of result)) out.new }
 {
-    writer::write(record, &mut out[2..43])
+    writer::write(record, &mut out[2..2 + LONGEST_TEXT])
 }
 
 // The number and the place of a refusal.

@@ -5,17 +5,16 @@ use borrow.Author.Tests.{ltb-true, ltb-false, lt-ltb, lt-leb}
 use Prim.Native.Nat.{ℕ, zero, suc, ◌+◌, ◌-◌, ◌<◌, ◌≤◌}
 use native.Mathlib.Nat.{sub-zero}
 use mathlib.Core.Path.{◌≡◌, refl, ◌∙◌, sym, ap}
-use mathlib.Core.Bool.{Bool, true, false, ◌&&◌}
+use mathlib.Core.Bool.{Bool, true, false, ◌&&◌, cond}
 use mathlib.Core.List.{List, [], ◌∷◌, ◌++◌, append_assoc, append-nil}
 use lib.Dec.{ltb, eqb}
 use lib.ListN.{length, take, drop, length-append, length-drop, length-take}
 use lib.Seq.{length-take-le, take_all, drop-drop}
 use Rattle.extended.specs.Extended.{test}
 use Rattle.extended.specs.declared.ExtendedDateTime.{ExtendedDateTime}
-use Rattle.primitive.specs.Answer.{if}
 use Rattle.primitive.specs.Text.{lowered}
 use Rattle.primitive.proofs.Lowered.{length_lowered}
-use Rattle.extended.specs.Placed.{Placed, refusal, placed, ◌>>◌}
+use Rattle.answers.specs.Placed.{Placed, refusal, placed, ◌>>◌}
 use Rattle.text_general.specs.Reading.{read_parsed, read_text}
 use Rattle.line_answers.specs.Answers.{line_answer}
 use Rattle.line_chunks.specs.Lines.{in_front, lines, line_length, answers, answered, unlines, wanting, epoch, output_of, output}
@@ -56,7 +55,7 @@ later_of (line ∷ later) = later
 pub unended_later : (b : ℕ) (s : List ℕ) → line_length (b ∷ s) ≡ length (b ∷ s) → (eqb b 10 ≡ false) × (line_length s ≡ length s)
 unfolding line_length
 unended_later b s h = by (eqb b 10) h where
-  by : (t : Bool) → if t 0 (suc (line_length s)) ≡ suc (length s) → (t ≡ false) × (line_length s ≡ length s)
+  by : (t : Bool) → cond t 0 (suc (line_length s)) ≡ suc (length s) → (t ≡ false) × (line_length s ≡ length s)
   by true h = absurd (omega arith)
   by false h = (refl, omega arith)
 
@@ -107,7 +106,7 @@ pub lines_more : (s more : List ℕ) → line_length s < length s → lines (s +
 unfolding line_length lines in_front
 lines_more [] more h = absurd (omega arith)
 lines_more (b ∷ s) more h = by (eqb b 10) h (lines_more s more) where
-  by : (t : Bool) → if t 0 (suc (line_length s)) < suc (length s) → (line_length s < length s → lines (s ++ more) ≡ take (line_length s) s ∷ lines (drop (suc (line_length s)) s ++ more)) → if t ([] ∷ lines (s ++ more)) (in_front b (lines (s ++ more))) ≡ take (if t 0 (suc (line_length s))) (b ∷ s) ∷ lines (drop (if t 0 (suc (line_length s))) s ++ more)
+  by : (t : Bool) → cond t 0 (suc (line_length s)) < suc (length s) → (line_length s < length s → lines (s ++ more) ≡ take (line_length s) s ∷ lines (drop (suc (line_length s)) s ++ more)) → cond t ([] ∷ lines (s ++ more)) (in_front b (lines (s ++ more))) ≡ take (cond t 0 (suc (line_length s))) (b ∷ s) ∷ lines (drop (cond t 0 (suc (line_length s))) s ++ more)
   by true h e = refl
   by false h e = rw (e (omega arith))
 

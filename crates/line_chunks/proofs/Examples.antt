@@ -8,7 +8,7 @@ use Rattle.primitive.specs.Text.{bytes}
 use Rattle.extended.specs.Calendar.{leap, month_days}
 use Rattle.extended.specs.Extended.{make, date, time, test_date, test_time, test_offset, test}
 use Rattle.extended.specs.declared.ExtendedDateTime.{ExtendedDateTime}
-use Rattle.extended.specs.Placed.{fine, refusal}
+use Rattle.answers.specs.Placed.{fine, refusal}
 use Rattle.text_general.specs.Reading.{read_text}
 use Rattle.writer.specs.Writer.{fixed, width_up_to, width, digits, padded, text_of, written}
 use Rattle.line_answers.specs.Answers.{refusal_line, written_line, line_answer}

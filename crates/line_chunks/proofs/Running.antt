@@ -11,7 +11,7 @@ use lib.ListN.{length, take, drop, length-append, length-drop, drop_of_length-le
 use lib.Seq.{take-append_seam, drop-length}
 use Rattle.extended.specs.declared.ExtendedDateTime.{ExtendedDateTime}
 use Rattle.extended.proofs.Counting.{and_left, and_right}
-use Rattle.extended.specs.Placed.{Placed, fine, refusal}
+use Rattle.answers.specs.Placed.{Placed, fine, refusal}
 use Rattle.text_general.specs.Reading.{read_text}
 use Rattle.line_answers.specs.Answers.{line_answer}
 use Rattle.line_chunks.specs.Lines.{line_length, answers, answered, unlines, wanting, epoch, output}

@@ -1,9 +1,8 @@
 -- What the line program prints for the whole of its input: document 01, 'Packet and text'.
-use Rattle.std.specs.Prelude.{ℕ, ◌-◌, Bool, ◌&&◌, List, [], ◌∷◌, ◌++◌, ltb, length, pos}
+use Rattle.std.specs.Prelude.{ℕ, ◌-◌, Bool, ◌&&◌, List, [], ◌∷◌, ◌++◌, ltb, length, pos, cond}
 use Rattle.extended.specs.Extended.{make, date, time}
 use Rattle.extended.specs.declared.ExtendedDateTime.{ExtendedDateTime}
-use Rattle.primitive.specs.Answer.{if}
-use Rattle.extended.specs.Placed.{Placed, fine, refusal}
+use Rattle.answers.specs.Placed.{Placed, fine, refusal}
 use Rattle.text_general.specs.Reading.{read_text}
 use Rattle.line_answers.specs.Answers.{refusal_line, line_answer}
 unfoldable pub use Rattle.line_ends.specs.Lines.{in_front, lines, line_length, in_front_of_ended, whole_lines, unlines, kept}
@@ -16,7 +15,7 @@ answers base (line ∷ later) = line_answer (read_text line base) ++ answers bas
 -- the lines that are answered in a room: each as long as there are 44 bytes, which any answer fits
 unfoldable pub fitting : ExtendedDateTime → ℕ → List (List ℕ) → List (List ℕ)
 fitting base room [] = []
-fitting base room (line ∷ later) = if (ltb room 44) [] (line ∷ fitting base (room - length (line_answer (read_text line base))) later)
+fitting base room (line ∷ later) = cond (ltb room 44) [] (line ∷ fitting base (room - length (line_answer (read_text line base))) later)
 
 -- the lines of a chunk that are answered in a room
 unfoldable pub answered : List ℕ → ExtendedDateTime → ℕ → List (List ℕ)

@@ -2,7 +2,7 @@
 -- and the chunks that it has yet to read. At the end of the input a read gives nothing. `room` is that of the buffer for answers.
 use Rattle.std.specs.Prelude.{ℕ, suc, ◌-◌, ◌<◌, ◌≡◌, Bool, true, false, List, [], ◌∷◌, ◌++◌, length, take, drop}
 use Rattle.extended.specs.declared.ExtendedDateTime.{ExtendedDateTime}
-use Rattle.extended.specs.Placed.{fine, refusal}
+use Rattle.answers.specs.Placed.{fine, refusal}
 use Rattle.text_general.specs.Reading.{read_text}
 use Rattle.line_answers.specs.Answers.{refusal_line}
 use Rattle.line_chunks.specs.Lines.{line_length, answers, answered, unlines, wanting, epoch}

@@ -7,7 +7,7 @@ ghost use Rattle.text_general.specs.Reading.{read_text};
 ghost use Rattle.line_answers.specs.Answers.{line_answer, Put};
 ghost use Rattle.line_chunks.specs.Lines.{epoch, answers, answered, unlines, wanting};
 
-use extended::ExtendedDateTime;
+use extended::{DateParts, ExtendedDateTime, TimeParts};
 
 // How far the lines of a chunk are answered: the bytes of the chunk that are taken, the bytes of answers, and whether the answers stopped
 // for want of room.
@@ -52,16 +52,18 @@ pub fn put_answers(chunk: &[u8], base: ExtendedDateTime, out: &mut [u8]) -> Prog
 pub fn epoch() -> ExtendedDateTime
     ensures { result ≡ epoch }
 {
-    ExtendedDateTime {
+    let date = DateParts {
         year: 1970,
         month: 1,
         day: 1,
+    };
+    let time = TimeParts {
         hour: 0,
         minute: 0,
         second: 0,
         nanosecond: 0,
-        offset_seconds: 0,
-    }
+    };
+    extended::from_parts(date, time, 0)
 }
 
 // The answer to a line.

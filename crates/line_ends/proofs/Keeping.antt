@@ -4,13 +4,12 @@ use borrow.Author.Tests.{ltb-true, ltb-false, le-ltb}
 use Prim.Native.Nat.{ℕ, ◌+◌, ◌-◌, ◌<◌, ◌≤◌, min}
 use native.Mathlib.Nat.{zero-add}
 use mathlib.Core.Path.{◌≡◌, refl, ◌∙◌}
-use mathlib.Core.Bool.{Bool, true, false}
+use mathlib.Core.Bool.{Bool, true, false, cond}
 use mathlib.Core.List.{List, [], ◌++◌}
 use Rattle.std.specs.Prelude.{◌⊎◌}
 use lib.Dec.{ltb}
 use lib.ListN.{length, take, drop, length-drop}
 use lib.Seq.{length-take-le, take_all, take-take, paste}
-use Rattle.primitive.specs.Answer.{if}
 use Rattle.line_ends.specs.Put.{put_at, Put}
 use Rattle.line_ends.specs.Lines.{kept}
 
@@ -30,7 +29,7 @@ take_least l a b h = by (ltb a b) refl where
 pub kept_none : (b : List ℕ) (from end : ℕ) → (end < from) ⊎ (length b < end) → Put (kept b from end) 0 b 0 b
 unfolding kept put_at
 kept_none b from end h = by (ltb (length b) end) refl where
-  by : (t : Bool) → ltb (length b) end ≡ t → Put (if t [] (take 4097 (take (end - from) (drop from b)))) 0 b 0 b
+  by : (t : Bool) → ltb (length b) end ≡ t → Put (cond t [] (take 4097 (take (end - from) (drop from b)))) 0 b 0 b
   by true e = record { place = refl; bytes = refl }
   by false e =
       let l : end ≤ length b = ltb-false (length b) end e in

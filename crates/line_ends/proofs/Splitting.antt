@@ -4,14 +4,13 @@ use borrow.Author.Tests.{eq-eqb, ne_eqb, eqb-true}
 use Prim.Native.Nat.{ℕ, zero, suc, ◌+◌, ◌-◌, ◌<◌, ◌≤◌}
 use native.Mathlib.Nat.{add-zero}
 use mathlib.Core.Path.{◌≡◌, refl, sym, ap}
-use mathlib.Core.Bool.{Bool, true, false}
+use mathlib.Core.Bool.{Bool, true, false, cond}
 use mathlib.Core.List.{List, [], ◌∷◌}
 use lib.Dec.{eqb}
 use lib.ListN.{length, take, drop, get_or, drop_of_length-le}
 use Rattle.std.specs.Prelude.{Option, None, Some}
 use Rattle.std.specs.Option.{unwrap_or}
 use Rattle.memchr.specs.Find.{IsFirstByte, is_byte}
-use Rattle.primitive.specs.Answer.{if}
 use Rattle.line_ends.specs.Lines.{line_length, in_front_of_ended, whole_lines}
 
 -- ---- the first byte 10, or none
@@ -36,7 +35,7 @@ pub line_inside : (s : List ℕ) → line_length s ≤ length s
 unfolding line_length
 line_inside [] = omega arith
 line_inside (b ∷ s) = by (eqb b 10) (line_inside s) where
-  by : (t : Bool) → line_length s ≤ length s → if t 0 (suc (line_length s)) ≤ suc (length s)
+  by : (t : Bool) → line_length s ≤ length s → cond t 0 (suc (line_length s)) ≤ suc (length s)
   by true h = omega arith
   by false h = omega arith
 
@@ -44,7 +43,7 @@ pub whole_none : (s : List ℕ) → length s ≤ line_length s → whole_lines s
 unfolding line_length whole_lines in_front_of_ended
 whole_none [] h = refl
 whole_none (b ∷ s) h = by (eqb b 10) h (whole_none s) where
-  by : (t : Bool) → suc (length s) ≤ if t 0 (suc (line_length s)) → (length s ≤ line_length s → whole_lines s ≡ []) → if t ([] ∷ whole_lines s) (in_front_of_ended b (whole_lines s)) ≡ []
+  by : (t : Bool) → suc (length s) ≤ cond t 0 (suc (line_length s)) → (length s ≤ line_length s → whole_lines s ≡ []) → cond t ([] ∷ whole_lines s) (in_front_of_ended b (whole_lines s)) ≡ []
   by true h e = absurd (omega arith)
   by false h e = rw (e (omega arith))
 
@@ -52,7 +51,7 @@ pub whole_more : (s : List ℕ) → line_length s < length s → whole_lines s �
 unfolding line_length whole_lines in_front_of_ended
 whole_more [] h = absurd (omega arith)
 whole_more (b ∷ s) h = by (eqb b 10) h (whole_more s) where
-  by : (t : Bool) → if t 0 (suc (line_length s)) < suc (length s) → (line_length s < length s → whole_lines s ≡ take (line_length s) s ∷ whole_lines (drop (suc (line_length s)) s)) → if t ([] ∷ whole_lines s) (in_front_of_ended b (whole_lines s)) ≡ take (if t 0 (suc (line_length s))) (b ∷ s) ∷ whole_lines (drop (if t 0 (suc (line_length s))) s)
+  by : (t : Bool) → cond t 0 (suc (line_length s)) < suc (length s) → (line_length s < length s → whole_lines s ≡ take (line_length s) s ∷ whole_lines (drop (suc (line_length s)) s)) → cond t ([] ∷ whole_lines s) (in_front_of_ended b (whole_lines s)) ≡ take (cond t 0 (suc (line_length s))) (b ∷ s) ∷ whole_lines (drop (cond t 0 (suc (line_length s))) s)
   by true h e = refl
   by false h e = rw (e (omega arith))
 

@@ -1,6 +1,6 @@
 -- The lines of an input: document 01, 'Packet and text'.
-use Rattle.std.specs.Prelude.{ℕ, suc, ◌-◌, List, [], ◌∷◌, ◌++◌, ltb, eqb, length, take, drop}
-use Rattle.primitive.specs.Answer.{if}
+use Rattle.std.specs.Prelude.{ℕ, suc, ◌+◌, ◌-◌, List, [], ◌∷◌, ◌++◌, ltb, eqb, length, take, drop, cond}
+use Rattle.answers.specs.Limits.{max_length}
 
 -- a byte in front of the first line
 unfoldable pub in_front : ℕ → List (List ℕ) → List (List ℕ)
@@ -10,12 +10,12 @@ in_front b (line ∷ later) = (b ∷ line) ∷ later
 -- "Byte 10 ends a line; nothing behind the last one is no line."
 unfoldable pub lines : List ℕ → List (List ℕ)
 lines [] = []
-lines (b ∷ input) = if (eqb b 10) ([] ∷ lines input) (in_front b (lines input))
+lines (b ∷ input) = cond (eqb b 10) ([] ∷ lines input) (in_front b (lines input))
 
 -- how many bytes the first line has: those in front of the first byte 10, or all of them
 unfoldable pub line_length : List ℕ → ℕ
 line_length [] = 0
-line_length (b ∷ input) = if (eqb b 10) 0 (suc (line_length input))
+line_length (b ∷ input) = cond (eqb b 10) 0 (suc (line_length input))
 
 -- ---- by chunks: a byte in front of the first line that has ended, if one has
 unfoldable pub in_front_of_ended : ℕ → List (List ℕ) → List (List ℕ)
@@ -25,13 +25,13 @@ in_front_of_ended b (line ∷ later) = (b ∷ line) ∷ later
 -- the lines of a chunk that have ended
 unfoldable pub whole_lines : List ℕ → List (List ℕ)
 whole_lines [] = []
-whole_lines (b ∷ chunk) = if (eqb b 10) ([] ∷ whole_lines chunk) (in_front_of_ended b (whole_lines chunk))
+whole_lines (b ∷ chunk) = cond (eqb b 10) ([] ∷ whole_lines chunk) (in_front_of_ended b (whole_lines chunk))
 
 -- the bytes of lines, each with the byte 10 that ends it
 unfoldable pub unlines : List (List ℕ) → List ℕ
 unlines [] = []
 unlines (line ∷ later) = line ++ (10 ∷ unlines later)
 
--- what is kept of a line that has not ended, from one place to another: no more than 4097 bytes; nothing where there are no such places
+-- what is kept of a line that has not ended, from one place to another: no more than one byte above the longest text; nothing where there are no such places
 unfoldable pub kept : List ℕ → ℕ → ℕ → List ℕ
-kept buffer from end = if (ltb (length buffer) end) [] (take 4097 (take (end - from) (drop from buffer)))
+kept buffer from end = cond (ltb (length buffer) end) [] (take (max_length + 1) (take (end - from) (drop from buffer)))

@@ -7,7 +7,7 @@ ghost use Rattle.line_ends.specs.Put.{Put};
 ghost use Rattle.line_ends.specs.Lines.{line_length, kept};
 
 // What is kept of a line: one byte more than the longest text that is read.
-const LONGEST_LINE: usize = 4097;
+const LONGEST_LINE: usize = answers::MAX_LENGTH + 1;
 
 // Where the first line ends: at a byte 10, or with the bytes.
 #[tactic(auto, using(crate::proofs::Splitting::line_found))]

@@ -7,11 +7,12 @@
 ghost use Rattle.std.specs.Prelude.{◌≡◌, ◌-◌, ◌<◌, ◌≤◌, pos, ◌-ℤ◌};
 ghost use Rattle.calendar.specs.Calendar.{days_of_months, day_number};
 ghost use Rattle.extended.specs.Calendar.{weekday};
-ghost use Rattle.extended.specs.Outcome.{accepted};
-ghost use Rattle.extended.specs.Refusals.{outcome_of};
+ghost use Rattle.answers.specs.Outcome.{accepted};
+ghost use Rattle.answers.specs.Refusals.{outcome_of};
 ghost use Rattle.extended.specs.Extended.{test, moment, unix_seconds, from_clock, from_unix_seconds, carried, add_seconds, day_of_year, weekday_sunday0, weekday_monday0};
 
-use extended::{DateParts, ExtendedDateTime, Refusal, TimeParts};
+use answers::Refusal;
+use extended::{DateParts, ExtendedDateTime, TimeParts};
 
 // From 0000-01-01 to 1970-01-01.
 const SECONDS_TO_1970: i128 = 62167219200;

@@ -90,7 +90,7 @@ fn word_dot(s: &[u8], at: usize) -> Option<(&[u8], usize)>
     ensures { part_answer result ≡ word_dot (lowered s.now) at }
 {
     let (word, end) = primitive::alpha1(s, at)?;
-    match primitive::byte(s, end, 46) {
+    match primitive::byte(s, end, b'.') {
         Some(next) => Some((primitive::part(s, at, next), next)),
         None => Some((word, end)),
     }

@@ -44,9 +44,9 @@ fn literal3(s: &[u8], at: usize) -> Option<(Date, usize)>
     ensures { answer_of result ≡ literal3 (lowered s.now) at }
 {
     let (month, at) = month_names::spaced_month(s, at)?;
-    let at = spaces::spaced_byte(s, at, 45)?;
+    let at = spaces::spaced_byte(s, at, b'-')?;
     let (day, at) = numbers::spaced_u8(s, at)?;
-    let at = spaces::spaced_byte(s, at, 45)?;
-    let (year, at) = dates::year::year_str(s, at)?;
+    let at = spaces::spaced_byte(s, at, b'-')?;
+    let (year, at) = date_parts::year::year_str(s, at)?;
     date_parts::with_year(year, MonthDay { month, day }, at)
 }

@@ -2,8 +2,8 @@
 
 #![tactic(auto)]
 
-ghost use Rattle.std.specs.Prelude.{◌≡◌, ℕ, List, ◌-◌, ◌<◌, ◌^◌, ltb};
-ghost use Rattle.primitive.specs.Answer.{answer_of, found_at, if, matched, none};
+ghost use Rattle.std.specs.Prelude.{◌≡◌, ℕ, List, ◌-◌, ◌<◌, ◌^◌, ltb, cond};
+ghost use Rattle.primitive.specs.Answer.{answer_of, found_at, matched, none};
 ghost use Rattle.primitive.specs.Text.{lowered};
 ghost use Rattle.primitive.specs.Primitive.{spaced, parse_uint, dec_uint};
 ghost use Rattle.primitive.specs.Ordinal.{signed, signed_number};
@@ -65,7 +65,7 @@ pub(crate) fn dec_uint(s: &[u8], at: usize, max: u64) -> Option<(u64, usize)>
 
 // The number n from `at` up to `end`, if anything stands there.
 fn number_of(at: usize, end: usize, n: u64) -> Option<(u64, usize)>
-    ensures { answer_of result ≡ if (ltb at end) (matched n end) none }
+    ensures { answer_of result ≡ cond (ltb at end) (matched n end) none }
 {
     if at < end { Some((n, end)) } else { None }
 }

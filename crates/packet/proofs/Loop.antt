@@ -1,4 +1,4 @@
--- The laws of the loop over a packet's items: what is left behind the items that are heeded. Assumes nothing.
+-- The laws of the loop over a packet's items: what is left behind the items that are gathered. Assumes nothing.
 use Rattle.relative.specs.declared.Relative.{Relative}
 use native.Mathlib.Omega.{arith}
 use native.Mathlib.Numerals.{add-one}
@@ -9,14 +9,14 @@ use mathlib.Core.List.{List, [], ◌∷◌, ◌++◌, append-nil, append_assoc}
 use lib.ListN.{length, length-append, length-drop, drop}
 use lib.Dec.{leb}
 use borrow.Author.Tests.{lt-leb, le-leb, leb-true}
-use Rattle.extended.specs.Outcome as outcome
-use Rattle.extended.specs.Outcome.{Outcome, accepted, refused, check}
+use Rattle.answers.specs.Outcome as outcome
+use Rattle.answers.specs.Outcome.{Outcome, accepted, refused, check}
 use Rattle.extended.specs.declared.ExtendedDateTime.{ExtendedDateTime}
 use Rattle.primitive.specs.Text.{digit, past}
 use Rattle.primitive.proofs.Forward.{run_le}
 use Rattle.items.specs.declared.Item.{Item}
-use Rattle.extended.specs.Placed.{Placed, fine, refusal, placed, ◌>>=◌, ◌>>◌}
-use Rattle.rules.specs.Rules.{empty, gather, heed, relative_of, relatives}
+use Rattle.answers.specs.Placed.{Placed, fine, refusal, placed, ◌>>=◌, ◌>>◌}
+use Rattle.rules.specs.Rules.{empty, gather, add_item, relative_of, relatives}
 use Rattle.rules.specs.declared.DateTimeBuilder.{DateTimeBuilder}
 use Rattle.rules.proofs.Order.{rules_more, relatives_more}
 use Rattle.builder.specs.Building.{built, build}
@@ -27,7 +27,7 @@ module _ (bytes area : List ℕ) (base : ExtendedDateTime) where
   -- the answer, with n items from the index i on, behind those of which p and rs were made
   pub rest : ℕ → ℕ → ℕ → Placed DateTimeBuilder → List Relative → Placed ExtendedDateTime
   rest zero i used p rs = placed i (check (leb (length area) used) 5) >> built p rs base
-  rest (suc n) i used p rs = placed i (item_at bytes area i used) >>= (λ x. rest n (suc i) (used + digits_used x) (heed area i x p) (rs ++ relative_of x))
+  rest (suc n) i used p rs = placed i (item_at bytes area i used) >>= (λ x. rest n (suc i) (used + digits_used x) (add_item area i x p) (rs ++ relative_of x))
 
   -- an item in front of the others is one behind those before it
   shifted : (xs : List Item) (x : Item) (q : Placed (List Item)) →
@@ -37,7 +37,7 @@ module _ (bytes area : List ℕ) (base : ExtendedDateTime) where
 
   more : (n i used : ℕ) (xs : List Item) (x : Item) (v : Placed ExtendedDateTime) → length xs ≡ i →
       v ≡ rest n (suc i) used (gather area 0 empty (xs ++ (x ∷ []))) (relatives (xs ++ (x ∷ []))) →
-      v ≡ rest n (suc i) used (heed area i x (gather area 0 empty xs)) (relatives xs ++ relative_of x)
+      v ≡ rest n (suc i) used (add_item area i x (gather area 0 empty xs)) (relatives xs ++ relative_of x)
   more n i used xs x v l e = rw (rules_more area xs x, relatives_more xs x, l) at e
 
   longer : (xs : List Item) (x : Item) (i : ℕ) → length xs ≡ i → length (xs ++ (x ∷ [])) ≡ suc i
@@ -58,7 +58,7 @@ module _ (bytes area : List ℕ) (base : ExtendedDateTime) where
           (items_from bytes area n (suc i) (used + digits_used x) >>= (λ ys. build area ((xs ++ (x ∷ [])) ++ ys) base))
           ≡ rest n (suc i) (used + digits_used x) (gather area 0 empty (xs ++ (x ∷ []))) (relatives (xs ++ (x ∷ [])))) → (o : Outcome Item) →
           ((placed i o >>= (λ x. items_from bytes area n (suc i) (used + digits_used x) >>= (λ ys. fine (x ∷ ys)))) >>= (λ ys. build area (xs ++ ys) base))
-          ≡ (placed i o >>= (λ x. rest n (suc i) (used + digits_used x) (heed area i x (gather area 0 empty xs)) (relatives xs ++ relative_of x)))
+          ≡ (placed i o >>= (λ x. rest n (suc i) (used + digits_used x) (add_item area i x (gather area 0 empty xs)) (relatives xs ++ relative_of x)))
       by later (accepted x) = shifted xs x (items_from bytes area n (suc i) (used + digits_used x)) ∙ more n i (used + digits_used x) xs x _ l (later x)
       by later (refused k) = refl
 
@@ -83,14 +83,14 @@ module _ (bytes area : List ℕ) (base : ExtendedDateTime) where
       left_built d r q = let z : count - i ≡ 0 = omega arith in rw q (rw (z, le-leb (length area) used d) at inv)
 
     module _ (h : i < count) where
-      read : (placed i (item_at bytes area i used) >>= (λ x. rest (count - suc i) (suc i) (used + digits_used x) (heed area i x p) (rs ++ relative_of x))) ≡ v
+      read : (placed i (item_at bytes area i used) >>= (λ x. rest (count - suc i) (suc i) (used + digits_used x) (add_item area i x p) (rs ++ relative_of x))) ≡ v
       unfolding left rest
       read = let z : count - i ≡ suc (count - suc i) = omega arith in rw z at inv
 
       pub left_bad : refused 5 ≡ item_at bytes area i used → refusal 5 i ≡ v
       left_bad e = rw (← e) at read
 
-      pub left_next : (x : Item) → accepted x ≡ item_at bytes area i used → (q : Placed DateTimeBuilder) → q ≡ heed area i x p → (ys : List Relative) → ys ≡ rs ++ relative_of x → (n : ℕ) → n ≡ digits_used x → left count (i + 1) (used + n) q ys ≡ v
+      pub left_next : (x : Item) → accepted x ≡ item_at bytes area i used → (q : Placed DateTimeBuilder) → q ≡ add_item area i x p → (ys : List Relative) → ys ≡ rs ++ relative_of x → (n : ℕ) → n ≡ digits_used x → left count (i + 1) (used + n) q ys ≡ v
       unfolding left
       left_next x e q f ys g n m = rw (add-one i, f, g, m) (rw (← e) at read)
 

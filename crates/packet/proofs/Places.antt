@@ -6,11 +6,11 @@ use mathlib.Core.Bool.{Bool, true, false}
 use mathlib.Core.List.{List, [], ◌∷◌}
 use lib.Dec.{leb}
 use lib.ListN.{length}
-use Rattle.extended.specs.Outcome.{Outcome, accepted, refused, check}
+use Rattle.answers.specs.Outcome.{Outcome, accepted, refused, check}
 use Rattle.extended.specs.Extended.{test}
 use Rattle.extended.specs.declared.ExtendedDateTime.{ExtendedDateTime}
 use Rattle.items.specs.declared.Item.{Item}
-use Rattle.extended.specs.Placed.{Placed, fine, refusal, placed, place_of, ◌>>=◌, ◌>>◌}
+use Rattle.answers.specs.Placed.{Placed, fine, refusal, placed, place_of, ◌>>=◌, ◌>>◌}
 use Rattle.builder.specs.Building.{build}
 use Rattle.builder.proofs.Places.{first_step, at_place, build_place}
 use Rattle.packet_fields.specs.Fields.{little, digits_used}

@@ -10,11 +10,11 @@ use lib.Dec.{leb, eqb}
 use lib.ListN.{length, length-drop, take, drop}
 use lib.Seq.{take_all}
 use Rattle.primitive.specs.Text.{lowered}
-use Rattle.extended.specs.Outcome.{accepted, refused, check}
+use Rattle.answers.specs.Outcome.{accepted, refused, check}
 use Rattle.extended.specs.Extended.{test}
 use Rattle.extended.specs.declared.ExtendedDateTime.{ExtendedDateTime}
-use Rattle.extended.proofs.Outcomes.{first_passed, check_true}
-use Rattle.extended.specs.Placed.{Placed, refusal}
+use Rattle.answers.proofs.Outcomes.{first_passed, check_true}
+use Rattle.answers.specs.Placed.{Placed, refusal}
 use Rattle.packet_fields.specs.Fields.{little}
 use Rattle.packet.specs.Packet.{count, digits_place, header, digits, build_items, read_packet}
 

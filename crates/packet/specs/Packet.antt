@@ -1,12 +1,14 @@
 -- A packet read under a base: document 01, 'Packet and text'.
+use Rattle.answers.specs.Numbers as refusal
+use Rattle.answers.specs.Limits.{most_items}
 use Rattle.std.specs.Prelude.{ℕ, zero, suc, ◌+◌, ◌*◌, Bool, List, [], ◌∷◌, leb, eqb, length, drop}
-use Rattle.extended.specs.Outcome as outcome
-use Rattle.extended.specs.Outcome.{Outcome, accepted, check}
+use Rattle.answers.specs.Outcome as outcome
+use Rattle.answers.specs.Outcome.{Outcome, accepted, check}
 use Rattle.extended.specs.Extended.{test}
 use Rattle.extended.specs.declared.ExtendedDateTime.{ExtendedDateTime}
 use Rattle.primitive.specs.Text.{lowered, digit, past}
 use Rattle.items.specs.declared.Item.{Item}
-use Rattle.extended.specs.Placed.{Placed, fine, placed, ◌>>=◌, ◌>>◌}
+use Rattle.answers.specs.Placed.{Placed, fine, placed, ◌>>=◌, ◌>>◌}
 use Rattle.builder.specs.Building.{build}
 use Rattle.packet_fields.specs.Fields.{little, fields_at, unpacked, digits_used}
 
@@ -21,10 +23,10 @@ digits_place n = 8 + 28 * n
 -- "Under 8 bytes is 5, then the count, then the other header fields"; the digits stand "to its exact end"
 unfoldable pub header : List ℕ → Outcome (Unit {0})
 header bytes =
-    outcome.◌>>◌ (check (leb 8 (length bytes)) 5)
-    (outcome.◌>>◌ (check (leb (count bytes) 64) 1)
-    (outcome.◌>>◌ (check (eqb (little 2 2 bytes) 8) 5)
-    (outcome.◌>>◌ (check (eqb (little 2 6 bytes) (digits_place (count bytes))) 5) (check (eqb (length bytes) (digits_place (count bytes) + little 2 4 bytes)) 5))))
+    outcome.◌>>◌ (check (leb 8 (length bytes)) refusal.packet)
+    (outcome.◌>>◌ (check (leb (count bytes) most_items) refusal.oversize)
+    (outcome.◌>>◌ (check (eqb (little 2 2 bytes) 8) refusal.packet)
+    (outcome.◌>>◌ (check (eqb (little 2 6 bytes) (digits_place (count bytes))) refusal.packet) (check (eqb (length bytes) (digits_place (count bytes) + little 2 4 bytes)) refusal.packet))))
 
 -- the digit area, seen as the readers of digits see a text
 unfoldable pub digits : List ℕ → List ℕ
@@ -39,12 +41,12 @@ digits_stand area from n = leb (from + n) (past digit area from)
 -- the item of an index, behind items that used up so many digits
 unfoldable pub item_at : List ℕ → List ℕ → ℕ → ℕ → Outcome Item
 item_at bytes area i used =
-    outcome.◌>>=◌ (unpacked (fields_at bytes i) used) (λ x. outcome.◌>>◌ (check (digits_stand area used (digits_used x)) 5) (accepted x))
+    outcome.◌>>=◌ (unpacked (fields_at bytes i) used) (λ x. outcome.◌>>◌ (check (digits_stand area used (digits_used x)) refusal.packet) (accepted x))
 
 -- "then items in order, then leftover digits": n items from the index i on. "5 for digits left over: the item count"
 unfoldable pub items_from : List ℕ → List ℕ → ℕ → ℕ → ℕ → Placed (List Item)
 items_from bytes area zero i used = do
-  placed i (check (leb (length area) used) 5)
+  placed i (check (leb (length area) used) refusal.packet)
   fine []
 items_from bytes area (suc n) i used = do
   x ← placed i (item_at bytes area i used)

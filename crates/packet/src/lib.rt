@@ -9,12 +9,13 @@
 
 ghost use Rattle.std.specs.Prelude.{◌≡◌, ◌<◌, ◌≤◌, length};
 ghost use Rattle.primitive.specs.Text.{lowered};
-ghost use Rattle.extended.specs.Refusals.{outcome_of, placed_of};
+ghost use Rattle.answers.specs.Refusals.{outcome_of, placed_of};
 ghost use Rattle.packet_fields.specs.Fields.{found_of};
 ghost use Rattle.packet.specs.Packet.{header, digits_stand, item_at, build_items, read_packet};
 
-use extended::{ExtendedDateTime, PlacedRefusal, Refusal};
-use gather::Heeded;
+use answers::{MOST_ITEMS, PlacedRefusal, Refusal};
+use extended::ExtendedDateTime;
+use gather::Gathered;
 use items::Item;
 
 #[tactic(auto, using(crate::proofs::Steps::steps))]
@@ -38,7 +39,7 @@ fn test_header(packet: &[u8]) -> Result<(), Refusal>
         return Err(Refusal::Packet);
     }
     let count = packet_fields::u16_at(packet, 0) as usize;
-    if 64 < count {
+    if MOST_ITEMS < count {
         return Err(Refusal::Oversize);
     }
     if packet_fields::u16_at(packet, 2) != 8 {
@@ -54,7 +55,7 @@ fn test_header(packet: &[u8]) -> Result<(), Refusal>
     Ok(())
 }
 
-// The record of the items. Each item is heeded as it is read, and none is kept but the relative ones.
+// The record of the items. Each item is gathered as it is read, and none is kept but the relative ones.
 fn build_items(
     packet: &[u8],
     count: usize,
@@ -65,21 +66,21 @@ fn build_items(
     requires digits_len_bound { length digits.now < 65536 }
     ensures { placed_of result ≡ build_items packet.now (lowered digits.now) count base }
 {
-    let mut heeded = Heeded::new();
+    let mut gathered = Gathered::new();
     let mut used = 0;
     // the items are no slice: each is read out of the bytes by its index, which is its place too
     for i in 0..count {
         let Some(item) = next_item(packet, i, digits, used) else {
             return Err(Refusal::Packet.at(i));
         };
-        heeded.heed(digits, item, i);
+        gathered.add_item(digits, item, i);
         used += packet_fields::digits_used(item);
     }
     let is_left = used < digits.len();
     if is_left {
         return Err(Refusal::Packet.at(count));
     }
-    builder::build(heeded.standing, heeded.relatives.as_slice(), base)
+    builder::build(gathered.builder, gathered.relatives.as_slice(), base)
 }
 
 // The item of an index, behind items that used up so many digits.

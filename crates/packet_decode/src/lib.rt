@@ -8,7 +8,7 @@ ghost use Rattle.std.specs.Prelude.{◌≡◌};
 ghost use Rattle.packet_fields.specs.Fields.{year_of, date_of, offset_of, time_offset_of, time_of, day_of, weekday_of, unit_of, relative_of, item_of, date_in_range, offset_in_range, time_in_range, zone_in_range, pure_in_range, in_range, fitting, unpacked, found_of};
 
 use dates::date::Date;
-use extended::GNU_MAX_YEAR;
+use answers::GNU_MAX_YEAR;
 use packet_fields::{Fields, flag, kind, unit};
 use items::combined::DateTime;
 use items::{Day, Item, Pure, Weekday};
@@ -111,7 +111,7 @@ fn relative_of(fields: Fields) -> Option<Item>
     ensures { found_of result ≡ relative_of fields }
 {
     if fields.which == unit::SECONDS {
-        let seconds = packet_fields::signed(fields.amount);
+        let seconds = packet_fields::from_twos_complement(fields.amount);
         return Some(Item::Relative(Relative::Seconds(seconds, fields.nanosecond)));
     }
     unit_of(fields.which, packet_fields::as_small(fields.amount)?)

@@ -4,7 +4,7 @@
 
 ghost use Rattle.std.specs.Prelude.{◌≡◌, ◌≤◌};
 ghost use Rattle.items.specs.Items.{day_index};
-ghost use Rattle.packet_fields.specs.Fields.{unsigned, sign_flag, with_date, with_time, of_zone, counted, of_relative, of_pure, fields_of, same};
+ghost use Rattle.packet_fields.specs.Fields.{twos_complement, sign_flag, with_date, with_time, of_zone, counted, of_relative, of_pure, fields_of, same};
 
 use dates::date::Date;
 use packet_fields::{Fields, flag, kind, unit};
@@ -90,9 +90,9 @@ fn of_zone(zone: Offset) -> Fields
 }
 
 fn of_weekday(weekday: Weekday) -> Fields
-    ensures { result ≡ counted 4 (day_index weekday.day) (unsigned weekday.offset) 0 }
+    ensures { result ≡ counted 4 (day_index weekday.day) (twos_complement weekday.offset) 0 }
 {
-    let amount = packet_fields::unsigned(i64::from(weekday.offset));
+    let amount = packet_fields::twos_complement(i64::from(weekday.offset));
     counted(kind::WEEKDAY, items::day_index(weekday.day), amount, 0)
 }
 
@@ -111,15 +111,15 @@ fn of_relative(relative: Relative) -> Fields
 }
 
 fn of_unit(unit: u8, n: i32) -> Fields
-    ensures { result ≡ counted 7 unit (unsigned n) 0 }
+    ensures { result ≡ counted 7 unit (twos_complement n) 0 }
 {
-    counted(kind::RELATIVE, unit, packet_fields::unsigned(i64::from(n)), 0)
+    counted(kind::RELATIVE, unit, packet_fields::twos_complement(i64::from(n)), 0)
 }
 
 fn of_seconds(n: i64, nanosecond: u32) -> Fields
-    ensures { result ≡ counted 7 6 (unsigned n) nanosecond }
+    ensures { result ≡ counted 7 6 (twos_complement n) nanosecond }
 {
-    let amount = packet_fields::unsigned(n);
+    let amount = packet_fields::twos_complement(n);
     counted(kind::RELATIVE, unit::SECONDS, amount, nanosecond)
 }
 

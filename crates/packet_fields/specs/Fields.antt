@@ -1,9 +1,10 @@
 -- The 28 bytes of a packet's item: document 01, 'Packet and text'.
-use Rattle.std.specs.Prelude.{Option, Some, None}
+use Rattle.answers.specs.Numbers as refusal
+use Rattle.answers.specs.Limits.{last_year}
+use Rattle.std.specs.Prelude.{Option, Some, None, cond}
 use Rattle.std.specs.Prelude.{ℕ, zero, suc, ◌+◌, ◌-◌, ◌*◌, ◌/◌, ◌%◌, ◌^◌, Bool, true, false, ◌&&◌, List, leb, ltb, eqb, get_or, ℤ, pos, negsuc}
 use Rattle.integers.specs.Integers.{in_i32}
-use Rattle.extended.specs.Outcome.{Outcome, accepted, refused, check, ◌>>=◌, ◌>>◌}
-use Rattle.primitive.specs.Answer.{if}
+use Rattle.answers.specs.Outcome.{Outcome, accepted, refused, check, ◌>>=◌, ◌>>◌}
 use Rattle.dates.specs.Date.{exists}
 use Rattle.dates.specs.declared.date.Date.{Date}
 use Rattle.relative.specs.declared.Relative.{Relative}
@@ -27,12 +28,12 @@ little zero at bytes = 0
 little (suc n) at bytes = get_or bytes at 0 + 256 * little n (suc at) bytes
 
 -- the signed number that 8 bytes are, and back
-unfoldable pub signed : ℕ → ℤ
-signed n = if (ltb n (2 ^ 63)) (pos n) (negsuc (2 ^ 64 - 1 - n))
+unfoldable pub from_twos_complement : ℕ → ℤ
+from_twos_complement n = cond (ltb n (2 ^ 63)) (pos n) (negsuc (2 ^ 64 - 1 - n))
 
-unfoldable pub unsigned : ℤ → ℕ
-unsigned (pos n) = n
-unsigned (negsuc n) = 2 ^ 64 - 1 - n
+unfoldable pub twos_complement : ℤ → ℕ
+twos_complement (pos n) = n
+twos_complement (negsuc n) = 2 ^ 64 - 1 - n
 
 -- ---- fields
 
@@ -52,7 +53,7 @@ abbrev pub flagged : ℕ → ℕ → Bool
 flagged bit flags = eqb (flags / bit % 2) 1
 
 unfoldable pub year_of : Fields → Option ℕ
-year_of f = if (flagged 1 f.flags) (Some f.year) None
+year_of f = cond (flagged 1 f.flags) (Some f.year) None
 
 unfoldable pub date_of : Fields → Date
 date_of f = record { day = f.day; month = f.month; year = year_of f }
@@ -61,23 +62,23 @@ abbrev pub offset_of : Fields → Offset
 offset_of f = record { negative = flagged 4 f.flags; hours = f.offset_hours; minutes = f.offset_minutes }
 
 unfoldable pub time_offset_of : Fields → Option Offset
-time_offset_of f = if (flagged 2 f.flags) (Some (offset_of f)) None
+time_offset_of f = cond (flagged 2 f.flags) (Some (offset_of f)) None
 
 unfoldable pub time_of : Fields → Time
 time_of f = record { hour = f.hour; minute = f.minute; second = f.second; nanosecond = f.nanosecond; offset = time_offset_of f }
 
 -- "weekday from Monday 0"
 unfoldable pub later_day : ℕ → Outcome Day
-later_day n = if (eqb n 4) (accepted day.Friday) (if (eqb n 5) (accepted day.Saturday) (if (eqb n 6) (accepted day.Sunday) (refused 5)))
+later_day n = cond (eqb n 4) (accepted day.Friday) (cond (eqb n 5) (accepted day.Saturday) (cond (eqb n 6) (accepted day.Sunday) (refused refusal.packet)))
 
 unfoldable pub day_of : ℕ → Outcome Day
-day_of n = if (eqb n 0) (accepted day.Monday) (if (eqb n 1) (accepted day.Tuesday) (if (eqb n 2) (accepted day.Wednesday) (if (eqb n 3) (accepted day.Thursday) (later_day n))))
+day_of n = cond (eqb n 0) (accepted day.Monday) (cond (eqb n 1) (accepted day.Tuesday) (cond (eqb n 2) (accepted day.Wednesday) (cond (eqb n 3) (accepted day.Thursday) (later_day n))))
 
 -- "amounts are i32 but for seconds"
 unfoldable pub small : ℕ → Outcome ℤ
 small n = do
-  check (in_i32 (signed n)) 5
-  accepted (signed n)
+  check (in_i32 (from_twos_complement n)) refusal.packet
+  accepted (from_twos_complement n)
 
 unfoldable pub weekday_of : Fields → Outcome Item
 weekday_of f = do
@@ -87,32 +88,32 @@ weekday_of f = do
 
 -- "unit 1 years to 6 seconds"
 unfoldable pub later_unit : ℕ → ℤ → Outcome Item
-later_unit unit n = if (eqb unit 4) (accepted (item.Relative (relative.Hours n))) (if (eqb unit 5) (accepted (item.Relative (relative.Minutes n))) (refused 5))
+later_unit unit n = cond (eqb unit 4) (accepted (item.Relative (relative.Hours n))) (cond (eqb unit 5) (accepted (item.Relative (relative.Minutes n))) (refused refusal.packet))
 
 unfoldable pub unit_of : ℕ → ℤ → Outcome Item
 unit_of unit n =
-    if (eqb unit 1) (accepted (item.Relative (relative.Years n))) (if (eqb unit 2) (accepted (item.Relative (relative.Months n)))
-    (if (eqb unit 3) (accepted (item.Relative (relative.Days n))) (later_unit unit n)))
+    cond (eqb unit 1) (accepted (item.Relative (relative.Years n))) (cond (eqb unit 2) (accepted (item.Relative (relative.Months n)))
+    (cond (eqb unit 3) (accepted (item.Relative (relative.Days n))) (later_unit unit n)))
 
 unfoldable pub relative_of : Fields → Outcome Item
-relative_of f = if (eqb f.which 6) (accepted (item.Relative (relative.Seconds (signed f.amount) f.nanosecond))) (small f.amount >>= unit_of f.which)
+relative_of f = cond (eqb f.which 6) (accepted (item.Relative (relative.Seconds (from_twos_complement f.amount) f.nanosecond))) (small f.amount >>= unit_of f.which)
 
 -- "0 kind (1 date, 2 time, 3 both, 4 weekday, 5 zone, 6 local zone, 7 relative, 8 pure)". The digits of a pure number stand behind those that are used.
 unfoldable pub later_kind : Fields → ℕ → Outcome Item
 later_kind f used =
-    if (eqb f.kind 5) (accepted (item.Offset (offset_of f))) (if (eqb f.kind 6) (accepted item.LocalZone)
-    (if (eqb f.kind 7) (relative_of f) (if (eqb f.kind 8) (accepted (item.Pure (record { start = used; length = f.length }))) (refused 5))))
+    cond (eqb f.kind 5) (accepted (item.Offset (offset_of f))) (cond (eqb f.kind 6) (accepted item.LocalZone)
+    (cond (eqb f.kind 7) (relative_of f) (cond (eqb f.kind 8) (accepted (item.Pure (record { start = used; length = f.length }))) (refused refusal.packet))))
 
 unfoldable pub item_of : Fields → ℕ → Outcome Item
 item_of f used =
-    if (eqb f.kind 1) (accepted (item.Date (date_of f))) (if (eqb f.kind 2) (accepted (item.Time (time_of f)))
-    (if (eqb f.kind 3) (accepted (item.DateTime (record { date = date_of f; time = time_of f }))) (if (eqb f.kind 4) (weekday_of f) (later_kind f used))))
+    cond (eqb f.kind 1) (accepted (item.Date (date_of f))) (cond (eqb f.kind 2) (accepted (item.Time (time_of f)))
+    (cond (eqb f.kind 3) (accepted (item.DateTime (record { date = date_of f; time = time_of f }))) (cond (eqb f.kind 4) (weekday_of f) (later_kind f used))))
 
 -- ---- ranges: "Ranges are those of the Rust's `TryFrom`"
 
 -- "A year above 2147485547 in an item is 5." A date without year may be 29 February.
 unfoldable pub date_in_range : Option ℕ → ℕ → ℕ → Bool
-date_in_range (Some y) m d = leb y 2147485547 && exists y m d
+date_in_range (Some y) m d = leb y last_year && exists y m d
 date_in_range None m d = exists 2000 m d
 
 unfoldable pub offset_in_range : Option Offset → Bool
@@ -180,12 +181,12 @@ unfoldable pub of_zone : Offset → Fields
 of_zone o = record { kind = 5; which = 0; month = 0; day = 0; year = 0; hour = 0; minute = 0; second = 0; flags = sign_flag o.negative; nanosecond = 0; offset_hours = o.hours; offset_minutes = o.minutes; length = 0; amount = 0 }
 
 unfoldable pub of_relative : Relative → Fields
-of_relative (relative.Years n) = counted 7 1 (unsigned n) 0
-of_relative (relative.Months n) = counted 7 2 (unsigned n) 0
-of_relative (relative.Days n) = counted 7 3 (unsigned n) 0
-of_relative (relative.Hours n) = counted 7 4 (unsigned n) 0
-of_relative (relative.Minutes n) = counted 7 5 (unsigned n) 0
-of_relative (relative.Seconds n k) = counted 7 6 (unsigned n) k
+of_relative (relative.Years n) = counted 7 1 (twos_complement n) 0
+of_relative (relative.Months n) = counted 7 2 (twos_complement n) 0
+of_relative (relative.Days n) = counted 7 3 (twos_complement n) 0
+of_relative (relative.Hours n) = counted 7 4 (twos_complement n) 0
+of_relative (relative.Minutes n) = counted 7 5 (twos_complement n) 0
+of_relative (relative.Seconds n k) = counted 7 6 (twos_complement n) k
 
 abbrev pub of_pure : Pure → Fields
 of_pure p = record { kind = 8; which = 0; month = 0; day = 0; year = 0; hour = 0; minute = 0; second = 0; flags = 0; nanosecond = 0; offset_hours = 0; offset_minutes = 0; length = p.length; amount = 0 }
@@ -194,7 +195,7 @@ unfoldable pub fields_of : Item → Fields
 fields_of (item.Date d) = with_date 1 d
 fields_of (item.Time t) = with_time (counted 2 0 0 0) t
 fields_of (item.DateTime v) = with_time (with_date 3 v.date) v.time
-fields_of (item.Weekday w) = counted 4 (day_index w.day) (unsigned w.offset) 0
+fields_of (item.Weekday w) = counted 4 (day_index w.day) (twos_complement w.offset) 0
 fields_of (item.Offset o) = of_zone o
 fields_of item.LocalZone = counted 6 0 0 0
 fields_of (item.Relative r) = of_relative r
@@ -220,8 +221,8 @@ same a b = same_date a b && same_later a b
 -- fields are those of an item in range, or of none
 unfoldable pub fitting : Fields → Item → Outcome Item
 fitting f x = do
-  check (in_range x) 5
-  check (same (fields_of x) f) 5
+  check (in_range x) refusal.packet
+  check (same (fields_of x) f) refusal.packet
   accepted x
 
 unfoldable pub unpacked : Fields → ℕ → Outcome Item
@@ -245,4 +246,4 @@ digits_used (item.Relative r) = 0
 -- what fields give, or that they are those of no item
 abbrev pub found_of : {A : Type 0} → Option A → Outcome A
 found_of (Some x) = accepted x
-found_of None = refused 5
+found_of None = refused refusal.packet

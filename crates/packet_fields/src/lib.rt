@@ -4,7 +4,7 @@
 #![tactic(auto)]
 
 ghost use Rattle.std.specs.Prelude.{◌≡◌, ◌+◌, ◌<◌, ℕ, get_or};
-ghost use Rattle.packet_fields.specs.Fields.{little, signed, unsigned, small, fields_from, fields_at, found_of, digits_used};
+ghost use Rattle.packet_fields.specs.Fields.{little, from_twos_complement, twos_complement, small, fields_from, fields_at, found_of, digits_used};
 
 use items::Item;
 use std::array;
@@ -99,16 +99,16 @@ pub fn u16_at(bytes: &[u8], at: u8) -> u16
     u16::from_le_bytes(row(bytes, usize::from(at)))
 }
 
-#[tactic(auto, unfolding(crate::specs::Fields::signed))]
-pub fn signed(n: u64) -> i64
-    ensures { result ≡ signed n }
+#[tactic(auto, unfolding(crate::specs::Fields::from_twos_complement))]
+pub fn from_twos_complement(n: u64) -> i64
+    ensures { result ≡ from_twos_complement n }
 {
     n.cast_signed()
 }
 
-#[tactic(auto, unfolding(crate::specs::Fields::unsigned))]
-pub fn unsigned(n: i64) -> u64
-    ensures { result ≡ unsigned n }
+#[tactic(auto, unfolding(crate::specs::Fields::twos_complement))]
+pub fn twos_complement(n: i64) -> u64
+    ensures { result ≡ twos_complement n }
 {
     n.cast_unsigned()
 }
@@ -118,7 +118,7 @@ pub fn unsigned(n: i64) -> u64
 pub fn as_small(n: u64) -> Option<i32>
     ensures { found_of result ≡ small n }
 {
-    i32::try_from(signed(n)).ok()
+    i32::try_from(from_twos_complement(n)).ok()
 }
 
 #[tactic(auto, unfolding(crate::specs::Fields::fields_from, crate::specs::Fields::little))]

@@ -8,20 +8,22 @@
 #![tactic(auto)]
 
 use arrayvec::ArrayVec;
-use extended::ExtendedDateTime;
+use extended::{DateParts, ExtendedDateTime, TimeParts};
 use std::io::{Stdout, Write};
 
 fn base() -> ExtendedDateTime {
-    ExtendedDateTime {
+    let date = DateParts {
         year: 2024,
         month: 3,
         day: 13,
+    };
+    let time = TimeParts {
         hour: 9,
         minute: 30,
         second: 0,
         nanosecond: 0,
-        offset_seconds: 0,
-    }
+    };
+    extended::from_parts(date, time, 0)
 }
 
 // The value of a hexadecimal digit.

@@ -6,12 +6,12 @@ use native.Mathlib.Omega.{arith}
 use Prim.Native.Nat.{ℕ, zero, suc, ◌+◌, ◌<◌, ◌≤◌}
 use mathlib.Core.Path.{◌≡◌, refl, sym, ap, ◌∙◌}
 use mathlib.Core.List.{List, [], ◌∷◌, ◌++◌, append_assoc, map}
-use mathlib.Core.Bool.{Bool, true, false}
+use mathlib.Core.Bool.{Bool, true, false, cond}
 use lib.ListN.{length, get_or, drop, length-drop, length-append, get_or-append}
 use lib.Seq.{drop-drop, drop-append-le}
 use Rattle.std.proofs.lemmas.List.{map-append}
 use lib.Dec.{eqb, leb}
-use Rattle.primitive.specs.Answer.{Answer, matched, none, if, and_then}
+use Rattle.primitive.specs.Answer.{Answer, matched, none, and_then}
 use Rattle.primitive.specs.Text.{lower, lowered, starts, tag}
 use Rattle.primitive.specs.Primitive.{closing, inside, comment, Nested, empty, other, inner}
 use Rattle.primitive.proofs.Lowered.{rest_cons, rest_none, length_lowered}
@@ -36,7 +36,7 @@ module _ (text : List ℕ) where
   unfolding closing
   one_left d c k = go (eqb c 41) (eqb c 40)
     where
-      go : (t u : Bool) → if t (closing d [] (k + 1)) (if u (closing (suc (suc d)) [] (k + 1)) (closing (suc d) [] (k + 1))) ≡ none
+      go : (t u : Bool) → cond t (closing d [] (k + 1)) (cond u (closing (suc (suc d)) [] (k + 1)) (closing (suc d) [] (k + 1))) ≡ none
       go true u = refl
       go false true = refl
       go false false = refl
@@ -53,8 +53,8 @@ module _ (text : List ℕ) where
       go : (t u : Bool) → drop (k + 1) text ≡ bs ++ (c ∷ [])
           → (drop (k + 1) text ≡ bs ++ (c ∷ []) → closing (suc (suc d)) (bs ++ (c ∷ [])) (k + 1) ≡ and_then (closing 1 bs (k + 1)) (onward d))
           → (drop (k + 1) text ≡ bs ++ (c ∷ []) → closing (suc d) (bs ++ (c ∷ [])) (k + 1) ≡ and_then (closing 0 bs (k + 1)) (onward d))
-          → if t (closing d (bs ++ (c ∷ [])) (k + 1)) (if u (closing (suc (suc d)) (bs ++ (c ∷ [])) (k + 1)) (closing (suc d) (bs ++ (c ∷ [])) (k + 1)))
-          ≡ and_then (if t (matched tt (k + 1)) (if u (closing 1 bs (k + 1)) (closing 0 bs (k + 1)))) (onward d)
+          → cond t (closing d (bs ++ (c ∷ [])) (k + 1)) (cond u (closing (suc (suc d)) (bs ++ (c ∷ [])) (k + 1)) (closing (suc d) (bs ++ (c ∷ [])) (k + 1)))
+          ≡ and_then (cond t (matched tt (k + 1)) (cond u (closing 1 bs (k + 1)) (closing 0 bs (k + 1)))) (onward d)
       go true u z f g = rw z
       go false true z f g = f z
       go false false z f g = g z
@@ -65,8 +65,8 @@ module _ (text : List ℕ) where
           → (drop (k + 1) text ≡ bs ++ (c ∷ []) → closing (suc (suc (deeper e d))) (bs ++ (c ∷ [])) (k + 1) ≡ and_then (closing (suc (suc e)) bs (k + 1)) (onward d))
           → (drop (k + 1) text ≡ bs ++ (c ∷ []) → closing (suc (deeper e d)) (bs ++ (c ∷ [])) (k + 1) ≡ and_then (closing (suc e) bs (k + 1)) (onward d))
           → (drop (k + 1) text ≡ bs ++ (c ∷ []) → closing (deeper e d) (bs ++ (c ∷ [])) (k + 1) ≡ and_then (closing e bs (k + 1)) (onward d))
-          → if t (closing (deeper e d) (bs ++ (c ∷ [])) (k + 1)) (if u (closing (suc (suc (deeper e d))) (bs ++ (c ∷ [])) (k + 1)) (closing (suc (deeper e d)) (bs ++ (c ∷ [])) (k + 1)))
-          ≡ and_then (if t (closing e bs (k + 1)) (if u (closing (suc (suc e)) bs (k + 1)) (closing (suc e) bs (k + 1)))) (onward d)
+          → cond t (closing (deeper e d) (bs ++ (c ∷ [])) (k + 1)) (cond u (closing (suc (suc (deeper e d))) (bs ++ (c ∷ [])) (k + 1)) (closing (suc (deeper e d)) (bs ++ (c ∷ [])) (k + 1)))
+          ≡ and_then (cond t (closing e bs (k + 1)) (cond u (closing (suc (suc e)) bs (k + 1)) (closing (suc e) bs (k + 1)))) (onward d)
       go true u z f g i = i z
       go false true z f g i = f z
       go false false z f g i = g z
@@ -81,14 +81,14 @@ closing_within e [] k n h = let z : ◌≡◌ {A = ℕ} 0 1 = cc in (omega arith
 closing_within zero (b ∷ bs) k n h = go (eqb b 41) (eqb b 40) (closing_within 1 bs (k + 1) n) (closing_within 0 bs (k + 1) n) h
   where
     go : (t u : Bool) → Closed 1 bs (k + 1) n → Closed 0 bs (k + 1) n
-        → if t (matched tt (k + 1)) (if u (closing 1 bs (k + 1)) (closing 0 bs (k + 1))) ≡ matched tt n → (k < n) × (n ≤ k + suc (length bs))
+        → cond t (matched tt (k + 1)) (cond u (closing 1 bs (k + 1)) (closing 0 bs (k + 1))) ≡ matched tt n → (k < n) × (n ≤ k + suc (length bs))
     go true u f g h = let z : k + 1 ≡ n = cc in (omega arith, omega arith)
     go false true f g h = let z = f h in (omega arith, omega arith)
     go false false f g h = let z = g h in (omega arith, omega arith)
 closing_within (suc e) (b ∷ bs) k n h = go (eqb b 41) (eqb b 40) (closing_within (suc (suc e)) bs (k + 1) n) (closing_within (suc e) bs (k + 1) n) (closing_within e bs (k + 1) n) h
   where
     go : (t u : Bool) → Closed (suc (suc e)) bs (k + 1) n → Closed (suc e) bs (k + 1) n → Closed e bs (k + 1) n
-        → if t (closing e bs (k + 1)) (if u (closing (suc (suc e)) bs (k + 1)) (closing (suc e) bs (k + 1))) ≡ matched tt n → (k < n) × (n ≤ k + suc (length bs))
+        → cond t (closing e bs (k + 1)) (cond u (closing (suc (suc e)) bs (k + 1)) (closing (suc e) bs (k + 1))) ≡ matched tt n → (k < n) × (n ≤ k + suc (length bs))
     go true u f g i h = let z = i h in (omega arith, omega arith)
     go false true f g i h = let z = f h in (omega arith, omega arith)
     go false false f g i h = let z = g h in (omega arith, omega arith)

@@ -9,7 +9,7 @@ use lib.IntN.{pos, negsuc}
 use Rattle.primitive.specs.Answer.{Answer, Reader, matched, dropped, none}
 use Rattle.primitive.specs.Text.{lower, lowered, bytes, blank, digit, letter, run, past, some, starts, tag, quoted}
 use Rattle.primitive.specs.Primitive.{multispace0, multispace1, closing, inside, comment, no_digit, sign, ignored_hyphen_or_plus, ignored, skip, space, decimal, parse_uint, dec_uint_str, dec_uint, colon, plus_or_minus, alpha1, same, named, beside}
-use Rattle.primitive.specs.Epoch.{padded, nanoseconds, nonzero, lost, point_or_comma, fraction, sec_and_nsec}
+use Rattle.primitive.specs.Epoch.{zero_filled, nanoseconds, nonzero, lost, point_or_comma, fraction, sec_and_nsec}
 use Rattle.primitive.specs.Ordinal.{signed, signed_number, ordinals, text_ordinal, number_ordinal, ordinal}
 
 -- what a reader makes of a quoted text, from its start
@@ -53,7 +53,7 @@ fractions : (reads sec_and_nsec "1.5" ≡ matched (record { sec = 1; nsec = 5000
     × (reads sec_and_nsec "7. 5" ≡ matched (record { sec = 7; nsec = 0 }) 1)
     × (reads sec_and_nsec "18446744073709551615.000000001" ≡ matched (record { sec = 18446744073709551615; nsec = 1 }) 30)
     × (reads sec_and_nsec ".5" ≡ none) × (reads sec_and_nsec "18446744073709551616" ≡ none)
-unfolding lower lowered bytes digit run past some starts tag decimal parse_uint dec_uint_str dec_uint padded nanoseconds nonzero lost point_or_comma fraction sec_and_nsec
+unfolding lower lowered bytes digit run past some starts tag decimal parse_uint dec_uint_str dec_uint zero_filled nanoseconds nonzero lost point_or_comma fraction sec_and_nsec
 fractions = (refl, refl, refl, refl, refl, refl, refl, refl, refl)
 
 -- Ordinals: a word of 29.1 or a signed number; "second" is no ordinal; a sign in front of a comment is ignored.

@@ -5,11 +5,11 @@ use Prim.Native.Nat.{ℕ, zero, suc, ◌+◌, ◌≤◌, zero-le, suc-le-suc}
 use native.Mathlib.Nat.{le_refl, le_trans}
 use mathlib.Core.Path.{◌≡◌, refl, ◌∙◌}
 use mathlib.Core.List.{List, [], ◌∷◌}
-use mathlib.Core.Bool.{Bool, true, false, ◌&&◌}
+use mathlib.Core.Bool.{Bool, true, false, ◌&&◌, cond}
 use lib.ListN.{length, get_or, drop, length-drop}
 use lib.Dec.{ltb, eqb, leb}
 use Prim.Native.String.{String}
-use Rattle.primitive.specs.Answer.{Answer, Reader, matched, dropped, none, stop, if, and_then, or_else, ◌>>=◌, ◌>>◌, ◌<|>◌, pure, value, optional, verify, cut}
+use Rattle.primitive.specs.Answer.{Answer, Reader, matched, dropped, none, stop, and_then, or_else, ◌>>=◌, ◌>>◌, ◌<|>◌, pure, value, optional, verify, cut}
 use Rattle.primitive.specs.Text.{bytes, blank, digit, run, past, some, starts, tag}
 use Rattle.primitive.specs.Primitive.{multispace0, multispace1, inside, comment, no_digit, sign, ignored_hyphen_or_plus, ignored, behind, skip, space, spaced, decimal, parse_uint, dec_uint_str, dec_uint, colon, plus_or_minus, alpha1, same, named}
 use Rattle.primitive.specs.Epoch.{point_or_comma, nanoseconds, lost, fraction, sec_and_nsec}
@@ -48,13 +48,13 @@ module _ {A : Type 0} (text : List ℕ) (at : ℕ) where
   matched_ends : (u : A) (m : ℕ) → Onward text at m → Ends text at (matched u m)
   matched_ends u m h v n e = let z : n ≡ m = cc in rw z h
 
-  pub if_ends : (t : Bool) (a b : Answer A) → Ends text at a → Ends text at b → Ends text at (if t a b)
+  pub if_ends : (t : Bool) (a b : Answer A) → Ends text at a → Ends text at b → Ends text at (cond t a b)
   if_ends true a b f g = f
   if_ends false a b f g = g
 
 -- ---- combinators
 
-pub if_forward : {A : Type 0} (t : Bool) (p q : Reader A) → Forward p → Forward q → Forward (if t p q)
+pub if_forward : {A : Type 0} (t : Bool) (p q : Reader A) → Forward p → Forward q → Forward (cond t p q)
 if_forward true p q h k = h
 if_forward false p q h k = k
 
@@ -104,7 +104,7 @@ unfolding run
 run_le p [] = le_refl 0
 run_le p (b ∷ bs) = go (p b) (run_le p bs)
   where
-    go : (t : Bool) → run p bs ≤ length bs → if t (suc (run p bs)) 0 ≤ suc (length bs)
+    go : (t : Bool) → run p bs ≤ length bs → cond t (suc (run p bs)) 0 ≤ suc (length bs)
     go true h = suc-le-suc h
     go false h = zero-le
 
@@ -131,7 +131,7 @@ pub tag_ends : (w text : List ℕ) (at n : ℕ) → tag w text at ≡ matched tt
 unfolding tag
 tag_ends w text at n = go (starts w (drop at text)) refl
   where
-    go : (t : Bool) → starts w (drop at text) ≡ t → ◌≡◌ {A = Answer (Unit {0})} (if t (matched tt (at + length w)) none) (matched tt n) → (n ≡ at + length w) × (at ≤ length text → n ≤ length text)
+    go : (t : Bool) → starts w (drop at text) ≡ t → ◌≡◌ {A = Answer (Unit {0})} (cond t (matched tt (at + length w)) none) (matched tt n) → (n ≡ at + length w) × (at ≤ length text → n ≤ length text)
     go true e k =
         let z : n ≡ at + length w = cc in
         let l = starts_length w (drop at text) e in

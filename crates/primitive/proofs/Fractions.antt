@@ -8,14 +8,14 @@ use native.Mathlib.Nat.{pow-suc, pow-le-pow_right}
 use native.Mathlib.Numerals.{add-one}
 use mathlib.Core.Path.{◌≡◌, refl, sym, ap, ◌∙◌}
 use mathlib.Core.List.{List, [], ◌∷◌}
-use mathlib.Core.Bool.{Bool, true, false, ◌&&◌}
+use mathlib.Core.Bool.{Bool, true, false, ◌&&◌, cond}
 use lib.ListN.{length, get_or, take, drop}
 use lib.Seq.{slice, length-take-le}
 use lib.Dec.{ltb, leb}
-use Rattle.primitive.specs.Answer.{matched, none, if}
+use Rattle.primitive.specs.Answer.{matched, none}
 use Rattle.primitive.specs.Text.{lower, lowered, digit, run, past, some}
 use Rattle.primitive.specs.Primitive.{dec_uint_str}
-use Rattle.primitive.specs.Epoch.{padded, nanoseconds, nonzero, lost}
+use Rattle.primitive.specs.Epoch.{zero_filled, nanoseconds, nonzero, lost}
 use Rattle.primitive.proofs.Lowered.{clash, digit_lower, digit_same, get_or_lowered, length_lowered, rest_cons, rest_none}
 use Rattle.primitive.proofs.Forward.{run_le}
 use Rattle.primitive.proofs.Limits.{slice_take}
@@ -29,7 +29,7 @@ unfolding run
 run_take p [] = refl
 run_take p (b ∷ bs) = go (p b) refl (run_take p bs)
   where
-    go : (t : Bool) → p b ≡ t → run p (take (run p bs) bs) ≡ run p bs → run p (take (if t (suc (run p bs)) 0) (b ∷ bs)) ≡ if t (suc (run p bs)) 0
+    go : (t : Bool) → p b ≡ t → run p (take (run p bs) bs) ≡ run p bs → run p (take (cond t (suc (run p bs)) 0) (b ∷ bs)) ≡ cond t (suc (run p bs)) 0
     go true e f = rw e (ap suc f)
     go false e f = refl
 
@@ -38,7 +38,7 @@ pub str_digits : (text : List ℕ) (at n : ℕ) (d : List ℕ) → matched (lowe
 unfolding dec_uint_str some past
 str_digits text at n d = go (ltb at (at + run digit (drop at text)))
   where
-    go : (t : Bool) → matched (lowered d) n ≡ if t (matched (slice at (at + run digit (drop at text)) text) (at + run digit (drop at text))) none → run digit (lowered d) ≡ length d
+    go : (t : Bool) → matched (lowered d) n ≡ cond t (matched (slice at (at + run digit (drop at text)) text) (at + run digit (drop at text))) none → run digit (lowered d) ≡ length d
     go true f =
         let w : lowered d ≡ slice at (at + run digit (drop at text)) text = cc in
         let z : lowered d ≡ take (run digit (drop at text)) (drop at text) = w ∙ slice_take at (run digit (drop at text)) text in
@@ -52,12 +52,12 @@ unfolding run
 run_passes p [] k h = absurd (omega arith)
 run_passes p (b ∷ bs) zero h = go (p b) refl h
   where
-    go : (t : Bool) → p b ≡ t → 0 < if t (suc (run p bs)) 0 → p b ≡ true
+    go : (t : Bool) → p b ≡ t → 0 < cond t (suc (run p bs)) 0 → p b ≡ true
     go true e h = e
     go false e h = absurd (omega arith)
 run_passes p (b ∷ bs) (suc k) h = run_passes p bs k (go (p b) h)
   where
-    go : (t : Bool) → suc k < if t (suc (run p bs)) 0 → k < run p bs
+    go : (t : Bool) → suc k < cond t (suc (run p bs)) 0 → k < run p bs
     go true h = omega arith
     go false h = omega arith
 
@@ -81,15 +81,15 @@ module _ (s : List ℕ) (e : run digit (lowered s) ≡ length s) (k : ℕ) (h : 
 
 -- the value of acc with k digits passed and the rest of nine behind it: those of s from the k-th on, and zeros
 pub nano_from : ℕ → List ℕ → ℕ → ℕ
-nano_from acc s k = grown acc (padded (9 - k) (drop k (lowered s)))
+nano_from acc s k = grown acc (zero_filled (9 - k) (drop k (lowered s)))
 
 pub nano_start : (s : List ℕ) → nano_from 0 s 0 ≡ nanoseconds (lowered s)
 unfolding nano_from nanoseconds
-nano_start s = grown_zero (padded 9 (lowered s))
+nano_start s = grown_zero (zero_filled 9 (lowered s))
 
 module _ (s : List ℕ) (acc k v : ℕ) (inv : nano_from acc s k ≡ v) where
   pub nano_done : 9 ≤ k → acc ≡ v
-  unfolding nano_from padded
+  unfolding nano_from zero_filled
   nano_done h = let z : 9 - k ≡ 0 = omega arith in sym (grown_none acc) ∙ (rw z at inv)
 
   module _ (h : k < 9) where
@@ -98,17 +98,17 @@ module _ (s : List ℕ) (acc k v : ℕ) (inv : nano_from acc s k ≡ v) where
 
     -- no digit is left: a zero
     pub nano_zero : length s ≤ k → nano_from (acc * 10) s (k + 1) ≡ v
-    unfolding nano_from padded
+    unfolding nano_from zero_filled
     nano_zero g =
-        let z : grown acc (48 ∷ padded (9 - (k + 1)) []) ≡ v = rw (one_left, rest_none s k g) at inv in
+        let z : grown acc (48 ∷ zero_filled (9 - (k + 1)) []) ≡ v = rw (one_left, rest_none s k g) at inv in
         let y : acc * 10 ≡ acc * 10 + (48 - 48) = omega arith in
-        rw (rest_none s (k + 1) (omega arith), y, ← grown_cons acc 48 (padded (9 - (k + 1)) [])) z
+        rw (rest_none s (k + 1) (omega arith), y, ← grown_cons acc 48 (zero_filled (9 - (k + 1)) [])) z
 
     pub nano_digit : k < length s → (b d : ℕ) → b ≡ lower (get_or s k 0) → d ≡ b - 48 → nano_from (acc * 10 + d) s (k + 1) ≡ v
-    unfolding nano_from padded
+    unfolding nano_from zero_filled
     nano_digit g b d e f =
-        let z : grown acc (b ∷ padded (9 - (k + 1)) (drop (k + 1) (lowered s))) ≡ v = rw (one_left, rest_cons s k g b e) at inv in
-        rw (f, ← grown_cons acc b (padded (9 - (k + 1)) (drop (k + 1) (lowered s)))) z
+        let z : grown acc (b ∷ zero_filled (9 - (k + 1)) (drop (k + 1) (lowered s))) ≡ v = rw (one_left, rest_cons s k g b e) at inv in
+        rw (f, ← grown_cons acc b (zero_filled (9 - (k + 1)) (drop (k + 1) (lowered s)))) z
 
 -- the sum stays small
 module _ (acc k : ℕ) (b : acc < 10 ^ k) (h : k < 9) where

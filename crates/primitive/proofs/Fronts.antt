@@ -4,12 +4,12 @@ use native.Mathlib.Omega.{arith}
 use Prim.Native.Nat.{ℕ, zero, suc, ◌+◌, ◌-◌, ◌<◌, ◌≤◌}
 use mathlib.Core.Path.{◌≡◌, refl, sym, ap, ◌∙◌}
 use mathlib.Core.List.{List, [], ◌∷◌}
-use mathlib.Core.Bool.{Bool, true, false, ◌&&◌}
+use mathlib.Core.Bool.{Bool, true, false, ◌&&◌, cond}
 use native.Mathlib.Decide.{dec_lt}
 use lib.Dec.{leb, eqb}
 use lib.ListN.{length, get_or, drop, get_or-eq_default}
 use lib.Seq.{get_or-drop, drop-drop}
-use Rattle.primitive.specs.Answer.{Answer, matched, dropped, none, stop, if}
+use Rattle.primitive.specs.Answer.{Answer, matched, dropped, none, stop}
 use Rattle.primitive.specs.Text.{lower, lowered, blank, digit, letter, run, past, some, starts, tag}
 use Rattle.primitive.specs.Primitive.{dec_uint_str, dec_uint, alpha1, ignored, behind, skip, space}
 use Rattle.primitive.proofs.Forward.{past_onward}
@@ -112,7 +112,7 @@ unfolding run
 run_ends p [] = refl
 run_ends p (b ∷ bs) = go (p b) refl (run_ends p bs)
   where
-    go : (t : Bool) → p b ≡ t → run p (drop (run p bs) bs) ≡ 0 → run p (drop (if t (suc (run p bs)) 0) (b ∷ bs)) ≡ 0
+    go : (t : Bool) → p b ≡ t → run p (drop (run p bs) bs) ≡ 0 → run p (drop (cond t (suc (run p bs)) 0) (b ∷ bs)) ≡ 0
     go true e h = h
     go false e h = rw e
 

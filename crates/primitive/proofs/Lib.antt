@@ -17,3 +17,6 @@ pub mod Limits
 pub mod Spaced
 pub mod Examples
 pub mod Rows
+pub mod Walk
+pub mod Leaves
+pub mod WordTables

@@ -8,16 +8,16 @@ use Prim.Native.String.{String}
 use native.Mathlib.Nat.{zero-add, suc-add, pow-suc, mul-le-mul_right}
 use mathlib.Core.Path.{◌≡◌, refl, sym, ap, ◌∙◌}
 use mathlib.Core.List.{List, [], ◌∷◌}
-use mathlib.Core.Bool.{Bool, true, false, ◌&&◌}
+use mathlib.Core.Bool.{Bool, true, false, ◌&&◌, cond}
 use lib.ListN.{length, take, drop}
 use lib.Seq.{slice}
 use lib.Dec.{ltb, leb}
 use lib.IntN.{ℤ, neg_ℤ}
 use lib.Signed.{mag}
-use Rattle.primitive.specs.Answer.{Answer, matched, dropped, none, stop, if, and_then, or_else, carry}
+use Rattle.primitive.specs.Answer.{Answer, matched, dropped, none, stop, and_then, or_else, carry}
 use Rattle.primitive.specs.Text.{bytes, digit, run, past, some}
 use Rattle.primitive.specs.Primitive.{space, sign, decimal, dec_uint, dec_uint_str, alpha1, same, named}
-use Rattle.primitive.specs.Epoch.{padded, nanoseconds, lost, point_or_comma, fraction, sec_and_nsec}
+use Rattle.primitive.specs.Epoch.{zero_filled, nanoseconds, lost, point_or_comma, fraction, sec_and_nsec}
 use Rattle.primitive.specs.Ordinal.{signed, ordinals, text_ordinal, signed_number, number_ordinal, ordinal}
 use Rattle.primitive.specs.declared.SecAndNsec.{SecAndNsec}
 use Rattle.primitive.proofs.Numbers.{number_limit}
@@ -46,7 +46,7 @@ unfolding run
 run_digits [] = none_left
 run_digits (b ∷ bs) = go (digit b) refl (run_digits bs)
   where
-    go : (t : Bool) → digit b ≡ t → Digits (take (run digit bs) bs) → Digits (take (if t (suc (run digit bs)) 0) (b ∷ bs))
+    go : (t : Bool) → digit b ≡ t → Digits (take (run digit bs) bs) → Digits (take (cond t (suc (run digit bs)) 0) (b ∷ bs))
     go true e h = one_more (digit_worth b e) h
     go false e h = none_left
 
@@ -56,14 +56,14 @@ slice_take (suc a) zero [] = rw (suc-add a 0)
 slice_take (suc a) (suc k) [] = rw (suc-add a (suc k))
 slice_take (suc a) k (x ∷ xs) = rw (suc-add a k) (slice_take a k xs)
 
-padded_digits : (k : ℕ) (ds : List ℕ) → Digits ds → Digits (padded k ds)
-unfolding padded
+padded_digits : (k : ℕ) (ds : List ℕ) → Digits ds → Digits (zero_filled k ds)
+unfolding zero_filled
 padded_digits zero ds h = none_left
 padded_digits (suc k) [] h = one_more {b = 48} (omega arith) (padded_digits k [] none_left)
 padded_digits (suc k) (d ∷ ds) (one_more l h) = one_more l (padded_digits k ds h)
 
-padded_length : (k : ℕ) (ds : List ℕ) → length (padded k ds) ≡ k
-unfolding padded
+padded_length : (k : ℕ) (ds : List ℕ) → length (zero_filled k ds) ≡ k
+unfolding zero_filled
 padded_length zero ds = refl
 padded_length (suc k) [] = ap suc (padded_length k [])
 padded_length (suc k) (d ∷ ds) = ap suc (padded_length k ds)
@@ -78,13 +78,13 @@ decimal_below (d ∷ ds) (one_more l h) =
 
 nanoseconds_below : (ds : List ℕ) → Digits ds → nanoseconds ds < 1000000000
 unfolding nanoseconds
-nanoseconds_below ds h = rw (padded_length 9 ds) at (decimal_below (padded 9 ds) (padded_digits 9 ds h))
+nanoseconds_below ds h = rw (padded_length 9 ds) at (decimal_below (zero_filled 9 ds) (padded_digits 9 ds h))
 
 str_digits : (text : List ℕ) (at : ℕ) → Has Digits (dec_uint_str text at)
 unfolding dec_uint_str some past
 str_digits text at = go (ltb at (at + run digit (drop at text)))
   where
-    go : (t : Bool) → Has Digits (if t (matched (slice at (at + run digit (drop at text)) text) (at + run digit (drop at text))) none)
+    go : (t : Bool) → Has Digits (cond t (matched (slice at (at + run digit (drop at text)) text) (at + run digit (drop at text))) none)
     go true = rw (slice_take at (run digit (drop at text)) text) (run_digits (drop at text))
     go false = tt
 
@@ -125,7 +125,7 @@ unfolding named every
 named_every p w text at n v [] h e = let z : ◌≡◌ {A = ℕ} 0 1 = cc in absurd (clash z)
 named_every {A = A} p w text at n v (x ∷ es) h e = go (same w (bytes x.0)) (p x.1) refl h e (named_every p w text at n v es)
   where
-    go : (t u : Bool) → p x.1 ≡ u → u && every p es ≡ true → if t (matched x.1 at) (named es w text at) ≡ matched v n
+    go : (t u : Bool) → p x.1 ≡ u → u && every p es ≡ true → cond t (matched x.1 at) (named es w text at) ≡ matched v n
         → (every p es ≡ true → named es w text at ≡ matched v n → p v ≡ true) → p v ≡ true
     go true true g h e f = let z : v ≡ x.1 = cc in rw z g
     go true false g h e f = let z : ◌≡◌ {A = ℕ} 0 1 = cc in absurd (clash z)

@@ -3,10 +3,9 @@ use Prim.Native.Nat.{ℕ, zero, suc, ◌+◌, ◌<◌, ◌≤◌}
 use native.Mathlib.Numerals.{add-one}
 use mathlib.Core.Path.{◌≡◌, refl, ap}
 use mathlib.Core.List.{List, [], ◌∷◌}
-use mathlib.Core.Bool.{Bool, true, false, ◌&&◌, ◌||◌}
+use mathlib.Core.Bool.{Bool, true, false, ◌&&◌, ◌||◌, cond}
 use lib.Dec.{leb, eqb}
 use borrow.Author.Tests.{leb-true, le-leb, lt-leb, ne_eqb}
-use Rattle.primitive.specs.Answer.{if}
 use native.Mathlib.Omega.{arith}
 use lib.ListN.{length, get_or, take, drop, drop_of_length-le, length-take}
 use lib.Seq.{slice, drop-cons, get_or-take}
@@ -29,7 +28,7 @@ unfolding lower
 lower_twice b = go (leb 65 b) refl (leb b 90) refl
   where
     go : (t : Bool) → leb 65 b ≡ t → (u : Bool) → leb b 90 ≡ u
-        → (if (leb 65 (if (t && u) (b + 32) b) && leb (if (t && u) (b + 32) b) 90) (if (t && u) (b + 32) b + 32) (if (t && u) (b + 32) b)) ≡ if (t && u) (b + 32) b
+        → (cond (leb 65 (cond (t && u) (b + 32) b) && leb (cond (t && u) (b + 32) b) 90) (cond (t && u) (b + 32) b + 32) (cond (t && u) (b + 32) b)) ≡ cond (t && u) (b + 32) b
     go true e true f = let h = leb-true 65 b e in rw (lt-leb (b + 32) 90 (omega arith), le-leb 65 (b + 32) (omega arith))
     go true e false f = rw (e, f)
     go false e u f = rw e
@@ -43,7 +42,7 @@ pub lower_above : (b : ℕ) → b ≤ lower b
 unfolding lower
 lower_above b = go (leb 65 b && leb b 90)
   where
-    go : (t : Bool) → b ≤ if t (b + 32) b
+    go : (t : Bool) → b ≤ cond t (b + 32) b
     go true = omega arith
     go false = omega arith
 
@@ -53,7 +52,7 @@ module _ (p : ℕ → Bool) where
   unfolding lower
   unlowered f b = go (leb 65 b) refl (leb b 90) refl
     where
-      go : (t : Bool) → leb 65 b ≡ t → (u : Bool) → leb b 90 ≡ u → p (if (t && u) (b + 32) b) ≡ p b
+      go : (t : Bool) → leb 65 b ≡ t → (u : Bool) → leb b 90 ≡ u → p (cond (t && u) (b + 32) b) ≡ p b
       go true e true g = f b e g
       go true e false g = refl
       go false e u g = refl
@@ -70,7 +69,7 @@ pub digit_same : (b : ℕ) → digit b ≡ true → b ≡ lower b
 unfolding digit lower
 digit_same b = go (leb 48 b) (leb b 57) refl
   where
-    go : (t u : Bool) → leb b 57 ≡ u → (t && u) ≡ true → b ≡ if (leb 65 b && leb b 90) (b + 32) b
+    go : (t u : Bool) → leb b 57 ≡ u → (t && u) ≡ true → b ≡ cond (leb 65 b && leb b 90) (b + 32) b
     go true true e f = let h = leb-true b 57 e in rw (lt-leb 65 b (omega arith))
     go true false e f = let z : ◌≡◌ {A = ℕ} 0 1 = cc in absurd (clash z)
     go false u e f = let z : ◌≡◌ {A = ℕ} 0 1 = cc in absurd (clash z)

@@ -6,11 +6,11 @@ use Prim.Native.Nat.{ℕ, zero, suc, ◌≤◌, ◌<◌, ◌^◌}
 use native.Mathlib.Nat.{lt_of_le_of_lt}
 use mathlib.Core.Path.{◌≡◌, refl, sym}
 use mathlib.Core.List.{List}
-use mathlib.Core.Bool.{Bool, true, false}
+use mathlib.Core.Bool.{Bool, true, false, cond}
 use lib.Dec.{ltb, leb}
 use mir.Syntax.{Width, w32}
 use mir.Val.{Fits, SFits, bits}
-use Rattle.primitive.specs.Answer.{Answer, matched, dropped, none, stop, if, and_then}
+use Rattle.primitive.specs.Answer.{Answer, matched, dropped, none, stop, and_then}
 use Rattle.primitive.specs.Primitive.{decimal, parse_uint, dec_uint_str, dec_uint}
 use Rattle.primitive.specs.Ordinal.{signed}
 use Rattle.primitive.proofs.Chain.{chain}
@@ -21,7 +21,7 @@ pub parse_limit : (max : ℕ) (w text : List ℕ) (at v n : ℕ) → parse_uint 
 unfolding parse_uint
 parse_limit max w text at v n = go (leb (decimal w) max) refl
   where
-    go : (t : Bool) → leb (decimal w) max ≡ t → if t (matched (decimal w) at) none ≡ matched v n → v ≤ max
+    go : (t : Bool) → leb (decimal w) max ≡ t → cond t (matched (decimal w) at) none ≡ matched v n → v ≤ max
     go true e k = let z : v ≡ decimal w = cc in rw z (leb-true (decimal w) max e)
     go false e k = let z : ◌≡◌ {A = ℕ} 0 1 = cc in omega arith
 

@@ -4,11 +4,11 @@ use native.Mathlib.Omega.{arith}
 use Prim.Native.Nat.{ℕ, ◌+◌, ◌*◌, ◌-◌, ◌<◌, ◌≤◌}
 use mathlib.Core.Path.{◌≡◌, refl, sym, ◌∙◌}
 use mathlib.Core.List.{List}
-use mathlib.Core.Bool.{Bool, true, false, ◌&&◌}
+use mathlib.Core.Bool.{Bool, true, false, ◌&&◌, cond}
 use lib.ListN.{length, get_or}
 use lib.Seq.{slice}
 use lib.Dec.{ltb, leb}
-use Rattle.primitive.specs.Answer.{Answer, matched, dropped, none, stop, if, and_then, answer_of}
+use Rattle.primitive.specs.Answer.{Answer, matched, dropped, none, stop, and_then, answer_of}
 use Rattle.primitive.specs.Text.{lower, lowered, digit, past, some}
 use Rattle.primitive.specs.Primitive.{decimal, parse_uint, dec_uint_str, dec_uint}
 use Rattle.primitive.proofs.Lowered.{clash, digit_same}
@@ -29,12 +29,12 @@ unfolding scanned
 scan_start s at = (omega arith, refl, grown_start s at (past digit (lowered s) at))
 
 module _ (s : List ℕ) (at max acc i : ℕ) (inv : scanned acc s i at) where
-  module _ (m : acc ≤ max) (r : Option (ℕ × ℕ)) (e : answer_of r ≡ if (ltb at i) (matched acc i) none) where
+  module _ (m : acc ≤ max) (r : Option (ℕ × ℕ)) (e : answer_of r ≡ cond (ltb at i) (matched acc i) none) where
     ended : i ≡ past digit (lowered s) at → answer_of r ≡ dec_uint max (lowered s) at
     unfolding scanned dec_uint dec_uint_str some
     ended k = rw (← k) (e ∙ go (ltb at i))
       where
-        go : (t : Bool) → if t (matched acc i) none ≡ and_then (if t (matched (slice at i (lowered s)) i) none) (λ w n. parse_uint max w (lowered s) n)
+        go : (t : Bool) → cond t (matched acc i) none ≡ and_then (cond t (matched (slice at i (lowered s)) i) none) (λ w n. parse_uint max w (lowered s) n)
         go true = parse_done s acc i i (slice at i (lowered s)) (rw (← k) at inv.2) (lowered s) max i (omega arith) m
         go false = refl
 
@@ -87,7 +87,7 @@ module _ (text : List ℕ) (at v n : ℕ) (max more : ℕ) (h : leb max more ≡
   unfolding parse_uint
   wide w m = go (leb (decimal w) max) refl
     where
-      go : (t : Bool) → leb (decimal w) max ≡ t → matched v n ≡ if t (matched (decimal w) m) none → matched v n ≡ if (leb (decimal w) more) (matched (decimal w) m) none
+      go : (t : Bool) → leb (decimal w) max ≡ t → matched v n ≡ cond t (matched (decimal w) m) none → matched v n ≡ cond (leb (decimal w) more) (matched (decimal w) m) none
       go true e f = let z = leb-true (decimal w) max e in let y = leb-true max more h in rw (le-leb (decimal w) more (omega arith)) f
       go false e f = let z : ◌≡◌ {A = ℕ} 0 1 = cc in absurd (clash z)
 

@@ -8,11 +8,11 @@ use Prim.Native.Nat.{ℕ, ◌+◌, ◌-◌, ◌<◌, ◌≤◌, min}
 use Prim.Native.String.{String}
 use mathlib.Core.Path.{◌≡◌, refl, sym, ap, ◌∙◌}
 use mathlib.Core.List.{List, [], ◌∷◌, map}
-use mathlib.Core.Bool.{Bool, true, false, ◌&&◌}
+use mathlib.Core.Bool.{Bool, true, false, ◌&&◌, cond}
 use lib.ListN.{length, get_or, take, drop, drop_of_length-le}
 use lib.Seq.{slice, drop-cons, take_all}
 use lib.Dec.{eqb}
-use Rattle.primitive.specs.Answer.{matched, if, found_at}
+use Rattle.primitive.specs.Answer.{matched, found_at}
 use Rattle.primitive.specs.Text.{lower, lowered, bytes}
 use Rattle.primitive.specs.Primitive.{same, named, beside}
 use Rattle.primitive.proofs.Limits.{slice_take}
@@ -132,6 +132,6 @@ module _ {A : Type 0} (text : List ℕ) (at : ℕ) (w : List ℕ) where
       let v = ap (λ (p : List ℕ × A). p.1) h in
       rw (k, v) (go (same w (bytes x.0)) (beside_named es rs (cc)))
     where
-      go : (t : Bool) → found_at at (beside rs w) ≡ named es w text at → found_at at (if t (Some x.1) (beside rs w)) ≡ if t (matched x.1 at) (named es w text at)
+      go : (t : Bool) → found_at at (beside rs w) ≡ named es w text at → found_at at (cond t (Some x.1) (beside rs w)) ≡ cond t (matched x.1 at) (named es w text at)
       go true h = refl
       go false h = h

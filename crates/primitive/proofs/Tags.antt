@@ -6,11 +6,11 @@ use Prim.Native.Nat.{ℕ, ◌+◌, ◌<◌, ◌≤◌}
 use native.Mathlib.Numerals.{add-one}
 use mathlib.Core.Path.{◌≡◌, refl, ◌∙◌}
 use mathlib.Core.List.{List, [], ◌∷◌}
-use mathlib.Core.Bool.{Bool, true, false, ◌&&◌}
+use mathlib.Core.Bool.{Bool, true, false, ◌&&◌, cond}
 use lib.Dec.{eqb, leb}
 use lib.ListN.{length, get_or, drop, drop_of_length-le}
 use lib.Seq.{drop-cons}
-use Rattle.primitive.specs.Answer.{matched, none, if}
+use Rattle.primitive.specs.Answer.{matched, none}
 use Rattle.primitive.specs.Text.{lower, lowered, starts, tag}
 use Rattle.primitive.proofs.Lowered.{rest_cons, rest_none}
 
@@ -34,7 +34,7 @@ module _ (c b : ℕ) (t : Bool) where
   unfolding lower
   lowers_alone h e = e ∙ go (leb 65 c) refl (leb c 90)
     where
-      go : (u : Bool) → leb 65 c ≡ u → (v : Bool) → eqb c b ≡ eqb (if (u && v) (c + 32) c) b
+      go : (u : Bool) → leb 65 c ≡ u → (v : Bool) → eqb c b ≡ eqb (cond (u && v) (c + 32) c) b
       go true f true = let k = leb-true 65 c f in rw (ne_eqb c b (λ z. omega arith), ne_eqb (c + 32) b (λ z. omega arith))
       go true f false = refl
       go false f v = refl

@@ -1,6 +1,6 @@
 -- What a reader answers, and how readers are put together. Document 01, 'Forms that must change': a reader answers a match
 -- with the next place, no match, or a stop. docs/requests/02-long-fractions.md: a match says whether a fraction lost a digit.
-use Rattle.std.specs.Prelude.{ℕ, List, Bool, true, false, Option, Some, None, Result, Ok, Err}
+use Rattle.std.specs.Prelude.{ℕ, List, Bool, true, false, Option, Some, None, Result, Ok, Err, cond}
 use Rattle.primitive.specs.declared.Miss.{Miss}
 use Rattle.primitive.specs.declared.Miss.TheVariants.{NoMatch, Stop}
 
@@ -15,11 +15,6 @@ pub data Answer (A : Type 0) : Type 0 where
 -- a reader takes the text, in lower case, and a place in it
 abbrev pub Reader : Type 0 → Type 0
 Reader A = List ℕ → ℕ → Answer A
-
--- one of two, by a test
-abbrev pub if : {A : Type 0} → Bool → A → A → A
-if true a b = a
-if false a b = b
 
 -- an answer after a lost digit: of a match the loss is kept, and nothing else remembers it
 abbrev pub drops : {A : Type 0} → Answer A → Answer A
@@ -74,7 +69,7 @@ optional d p = p <|> pure d
 
 -- nothing is read, and the value is v where a test passes; where it fails there is no match
 abbrev pub verify : {A : Type 0} → Bool → A → Reader A
-verify t v text at = if t (matched v at) none
+verify t v text at = cond t (matched v at) none
 
 -- nothing is read, and the value is v; where a test passes a digit was lost on the way
 abbrev pub cut : {A : Type 0} → Bool → A → Reader A

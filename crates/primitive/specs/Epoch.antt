@@ -1,24 +1,24 @@
 -- Seconds with a fraction, as in items/epoch.rs.
-use Rattle.std.specs.Prelude.{ℕ, zero, suc, List, [], ◌∷◌, Bool, true, false, eqb, drop}
-use Rattle.primitive.specs.Answer.{Reader, if, ◌>>=◌, ◌>>◌, ◌<|>◌, pure, optional, cut}
+use Rattle.std.specs.Prelude.{ℕ, zero, suc, List, [], ◌∷◌, Bool, true, false, eqb, drop, cond}
+use Rattle.primitive.specs.Answer.{Reader, ◌>>=◌, ◌>>◌, ◌<|>◌, pure, optional, cut}
 use Rattle.primitive.specs.Text.{char}
 use Rattle.primitive.specs.Primitive.{decimal, dec_uint, dec_uint_str}
 use Rattle.primitive.specs.declared.SecAndNsec.{SecAndNsec}
 
 -- the first k digits, with zeros behind them where there are fewer
-unfoldable pub padded : ℕ → List ℕ → List ℕ
-padded zero ds = []
-padded (suc k) [] = 48 ∷ padded k []
-padded (suc k) (d ∷ ds) = d ∷ padded k ds
+unfoldable pub zero_filled : ℕ → List ℕ → List ℕ
+zero_filled zero ds = []
+zero_filled (suc k) [] = 48 ∷ zero_filled k []
+zero_filled (suc k) (d ∷ ds) = d ∷ zero_filled k ds
 
 -- 29.5: "nanosecond timestamp resolution; excess precision is silently discarded"
 unfoldable pub nanoseconds : List ℕ → ℕ
-nanoseconds ds = decimal (padded 9 ds)
+nanoseconds ds = decimal (zero_filled 9 ds)
 
 -- whether one of some digits is other than `0`, which is 48
 unfoldable pub nonzero : List ℕ → Bool
 nonzero [] = false
-nonzero (d ∷ ds) = if (eqb d 48) (nonzero ds) true
+nonzero (d ∷ ds) = cond (eqb d 48) (nonzero ds) true
 
 -- whether a digit after the ninth is other than `0`: what the nanoseconds lose. The manual discards it; here a match tells of it.
 unfoldable pub lost : List ℕ → Bool

@@ -1,8 +1,8 @@
 -- What the readers of items are made of, in the order of items/primitive.rs: the space between tokens, numbers, signs; then
 -- words that stand in a table.
-use Rattle.std.specs.Prelude.{ℕ, zero, suc, ◌+◌, ◌-◌, ◌*◌, ◌^◌, ◌≡◌, List, [], ◌∷◌, ◌++◌, Bool, true, false, ◌&&◌, length, get_or, drop, leb, eqb, Option, Some, None}
+use Rattle.std.specs.Prelude.{ℕ, zero, suc, ◌+◌, ◌-◌, ◌*◌, ◌^◌, ◌≡◌, List, [], ◌∷◌, ◌++◌, Bool, true, false, ◌&&◌, length, get_or, drop, leb, eqb, Option, Some, None, cond}
 use Prim.Native.String.{String}
-use Rattle.primitive.specs.Answer.{Answer, Reader, matched, dropped, none, stop, if, ◌>>=◌, ◌>>◌, ◌<|>◌, value, verify}
+use Rattle.primitive.specs.Answer.{Answer, Reader, matched, dropped, none, stop, ◌>>=◌, ◌>>◌, ◌<|>◌, value, verify}
 use Rattle.primitive.specs.Text.{lowered, bytes, blank, digit, letter, past, some, char}
 
 -- ---- the space between tokens
@@ -20,12 +20,12 @@ multispace1 = some blank
 unfoldable pub closing : ℕ → List ℕ → ℕ → Answer (Unit {0})
 closing d [] at = none
 closing zero (b ∷ bs) at =
-    if (eqb b 41) (matched tt (at + 1))
-    (if (eqb b 40) (closing 1 bs (at + 1))
+    cond (eqb b 41) (matched tt (at + 1))
+    (cond (eqb b 40) (closing 1 bs (at + 1))
     (closing 0 bs (at + 1)))
 closing (suc d) (b ∷ bs) at =
-    if (eqb b 41) (closing d bs (at + 1))
-    (if (eqb b 40) (closing (suc (suc d)) bs (at + 1))
+    cond (eqb b 41) (closing d bs (at + 1))
+    (cond (eqb b 40) (closing (suc (suc d)) bs (at + 1))
     (closing (suc d) bs (at + 1)))
 
 unfoldable pub inside : Reader (Unit {0})
@@ -44,7 +44,7 @@ pub data Nested : List ℕ → Type 0 where
 
 -- a place where no digit stands
 unfoldable pub no_digit : Reader (Unit {0})
-no_digit text at = if (digit (get_or text at 0)) none (matched tt at)
+no_digit text at = cond (digit (get_or text at 0)) none (matched tt at)
 
 -- a plus or a minus; true for minus
 unfoldable pub sign : Reader Bool
@@ -128,9 +128,9 @@ same (a ∷ as') (b ∷ bs) = eqb a b && same as' bs
 -- the value that a table gives a word; a word that the table does not have is no match
 unfoldable pub named : {A : Type 0} → List (String × A) → List ℕ → Reader A
 named [] w text at = none
-named (e ∷ es) w text at = if (same w (bytes e.0)) (matched e.1 at) (named es w text at)
+named (e ∷ es) w text at = cond (same w (bytes e.0)) (matched e.1 at) (named es w text at)
 
 -- the value that stands beside the first word that is w, the words being seen in lower case
 unfoldable pub beside : {A : Type 0} → List (List ℕ × A) → List ℕ → Option A
 beside [] w = None
-beside (e ∷ es) w = if (same w (lowered e.0)) (Some e.1) (beside es w)
+beside (e ∷ es) w = cond (same w (lowered e.0)) (Some e.1) (beside es w)

@@ -1,15 +1,15 @@
 -- Bytes, lower case, and runs of bytes.
-use Rattle.std.specs.Prelude.{ℕ, suc, ◌+◌, ◌<◌, ◌≡◌, List, [], ◌∷◌, map, Bool, true, false, ◌&&◌, ◌||◌, length, drop, ltb, leb, eqb, Option, Some, None}
+use Rattle.std.specs.Prelude.{ℕ, suc, ◌+◌, ◌<◌, ◌≡◌, List, [], ◌∷◌, map, Bool, true, false, ◌&&◌, ◌||◌, length, drop, ltb, leb, eqb, Option, Some, None, cond}
 use Prim.Native.String.{String}
 use Prim.Native.String.{[] as empty, ◌∷◌ as then}
 use Prim.Native.Char.{Char, code}
 use Rattle.std.specs.Borrow.{Bor}
 use Rattle.std.proofs.Math.Seq.{slice}
-use Rattle.primitive.specs.Answer.{Answer, Reader, matched, none, if}
+use Rattle.primitive.specs.Answer.{Answer, Reader, matched, none}
 
 -- 29.1: "Alphabetic case is completely ignored in dates." Bytes 65 to 90 are 97 to 122 in lower case; readers see the text so.
 unfoldable pub lower : ℕ → ℕ
-lower b = if (leb 65 b && leb b 90) (b + 32) b
+lower b = cond (leb 65 b && leb b 90) (b + 32) b
 
 unfoldable pub lowered : List ℕ → List ℕ
 lowered text = map lower text
@@ -43,7 +43,7 @@ Tells says p = (b : ℕ) (r : Bool) → b < 256 → says b r → r ≡ p (lower 
 -- how many bytes in front pass the test
 unfoldable pub run : (ℕ → Bool) → List ℕ → ℕ
 run p [] = 0
-run p (b ∷ bs) = if (p b) (suc (run p bs)) 0
+run p (b ∷ bs) = cond (p b) (suc (run p bs)) 0
 
 -- the place behind the bytes from `at` on that pass the test
 unfoldable pub past : (ℕ → Bool) → List ℕ → ℕ → ℕ
@@ -51,7 +51,7 @@ past p text at = at + run p (drop at text)
 
 -- all bytes from here on that pass the test, one or more
 unfoldable pub some : (ℕ → Bool) → Reader (List ℕ)
-some p text at = if (ltb at (past p text at)) (matched (slice at (past p text at) text) (past p text at)) none
+some p text at = cond (ltb at (past p text at)) (matched (slice at (past p text at) text) (past p text at)) none
 
 -- whether a text begins with the bytes w
 unfoldable pub starts : List ℕ → List ℕ → Bool
@@ -61,7 +61,7 @@ starts (c ∷ cs) (b ∷ bs) = eqb b c && starts cs bs
 
 -- the bytes w, whatever stands behind them
 unfoldable pub tag : List ℕ → Reader (Unit {0})
-tag w text at = if (starts w (drop at text)) (matched tt (at + length w)) none
+tag w text at = cond (starts w (drop at text)) (matched tt (at + length w)) none
 
 -- one byte, given by its number or by its character
 abbrev pub byte : ℕ → Reader (Unit {0})

@@ -137,7 +137,7 @@ pub fn byte(s: &[u8], at: usize, b: u8) -> Option<usize>
 fn lowers_to(c: u8, b: u8) -> bool
     ensures { result ≡ eqb (lower c) b }
 {
-    if b < 65 {
+    if b < b'A' {
         return c == b;
     }
     to_lower(c) == b
@@ -148,8 +148,8 @@ fn lowers_to(c: u8, b: u8) -> bool
 pub fn sign(s: &[u8], at: usize) -> Option<(bool, usize)>
     ensures { answer_of result ≡ sign (lowered s.now) at }
 {
-    let plus = byte(s, at, 43).map(|next| (false, next));
-    plus.or_else(|| byte(s, at, 45).map(|next| (true, next)))
+    let plus = byte(s, at, b'+').map(|next| (false, next));
+    plus.or_else(|| byte(s, at, b'-').map(|next| (true, next)))
 }
 
 // The bytes `w`, in lower case, whatever stands behind them.

@@ -6,7 +6,7 @@ use lib.IntN.{pos, negsuc}
 use Rattle.primitive.specs.Answer.{Answer, Reader, matched, none}
 use Rattle.primitive.specs.Text.{lower, lowered, bytes, blank, digit, letter, run, past, some, starts, tag}
 use Rattle.primitive.specs.Primitive.{multispace0, closing, inside, comment, no_digit, sign, ignored_hyphen_or_plus, ignored, skip, space, decimal, parse_uint, dec_uint_str, dec_uint, plus_or_minus, alpha1, same, named}
-use Rattle.primitive.specs.Epoch.{padded, nanoseconds, nonzero, lost, point_or_comma, fraction, sec_and_nsec}
+use Rattle.primitive.specs.Epoch.{zero_filled, nanoseconds, nonzero, lost, point_or_comma, fraction, sec_and_nsec}
 use Rattle.primitive.specs.Ordinal.{signed, signed_number, ordinals, text_ordinal, number_ordinal, ordinal}
 use Rattle.relative.specs.Relative.{direction, rounded, second_words, second_word, signed_seconds, seconds, days, units, stripped, in_unit, displaced, displacement, parse}
 use Rattle.relative.specs.declared.Relative.TheVariants.{Years, Months, Days, Hours, Minutes, Seconds}
@@ -20,7 +20,7 @@ manual : (reads parse "1 year" ≡ matched (Years (pos 1)) 6) × (reads parse "1
     × (reads parse "3 years" ≡ matched (Years (pos 3)) 7) × (reads parse "2 days" ≡ matched (Days (pos 2)) 6)
     × (reads parse "-1 month" ≡ matched (Months (negsuc 0)) 8) × (reads parse "day" ≡ matched (Days (pos 1)) 3)
     × (reads parse "day ago" ≡ matched (Days (negsuc 0)) 7)
-unfolding lower lowered bytes blank digit letter run past some starts tag multispace0 closing inside comment no_digit sign ignored_hyphen_or_plus ignored skip space decimal parse_uint dec_uint_str dec_uint plus_or_minus alpha1 same named padded nanoseconds nonzero lost point_or_comma fraction sec_and_nsec signed signed_number ordinals text_ordinal number_ordinal ordinal direction rounded second_words second_word signed_seconds seconds days units stripped in_unit displaced displacement parse
+unfolding lower lowered bytes blank digit letter run past some starts tag multispace0 closing inside comment no_digit sign ignored_hyphen_or_plus ignored skip space decimal parse_uint dec_uint_str dec_uint plus_or_minus alpha1 same named zero_filled nanoseconds nonzero lost point_or_comma fraction sec_and_nsec signed signed_number ordinals text_ordinal number_ordinal ordinal direction rounded second_words second_word signed_seconds seconds days units stripped in_unit displaced displacement parse
 manual = (refl, refl, refl, refl, refl, refl, refl)
 
 -- Every unit, with and without its `s`; one `s` alone is ignored.
@@ -30,7 +30,7 @@ all_units : (reads parse "Months" ≡ matched (Months (pos 1)) 6) × (reads pars
     × (reads parse "third minute" ≡ matched (Minutes (pos 3)) 12) × (reads parse "5mins" ≡ matched (Minutes (pos 5)) 5)
     × (reads parse "last second" ≡ matched (Seconds (negsuc 0) 0) 11) × (reads parse "secs" ≡ matched (Seconds (pos 1) 0) 4)
     × (reads parse "this year" ≡ matched (Years (pos 0)) 9) × (reads parse "3 yearss" ≡ none) × (reads parse "s" ≡ none)
-unfolding lower lowered bytes blank digit letter run past some starts tag multispace0 closing inside comment no_digit sign ignored_hyphen_or_plus ignored skip space decimal parse_uint dec_uint_str dec_uint plus_or_minus alpha1 same named padded nanoseconds nonzero lost point_or_comma fraction sec_and_nsec signed signed_number ordinals text_ordinal number_ordinal ordinal direction rounded second_words second_word signed_seconds seconds days units stripped in_unit displaced displacement parse
+unfolding lower lowered bytes blank digit letter run past some starts tag multispace0 closing inside comment no_digit sign ignored_hyphen_or_plus ignored skip space decimal parse_uint dec_uint_str dec_uint plus_or_minus alpha1 same named zero_filled nanoseconds nonzero lost point_or_comma fraction sec_and_nsec signed signed_number ordinals text_ordinal number_ordinal ordinal direction rounded second_words second_word signed_seconds seconds days units stripped in_unit displaced displacement parse
 all_units = (refl, refl, refl, refl, refl, refl, refl, refl, refl, refl, refl, refl, refl)
 
 -- Document 01, items/relative.rs: seconds round down; those that no i64 holds are no match.
@@ -41,7 +41,7 @@ fractions : (reads parse "1.5 seconds ago" ≡ matched (Seconds (negsuc 1) 50000
     × (reads parse "9223372036854775808 seconds" ≡ none)
     × (reads parse "-9223372036854775807.5 sec" ≡ matched (Seconds (negsuc 9223372036854775807) 500000000) 26)
     × (reads parse "1.5 hours" ≡ none) × (reads seconds "1 minute" ≡ none)
-unfolding lower lowered bytes blank digit letter run past some starts tag multispace0 closing inside comment no_digit sign ignored_hyphen_or_plus ignored skip space decimal parse_uint dec_uint_str dec_uint plus_or_minus alpha1 same named padded nanoseconds nonzero lost point_or_comma fraction sec_and_nsec signed signed_number ordinals text_ordinal number_ordinal ordinal direction rounded second_words second_word signed_seconds seconds days units stripped in_unit displaced displacement parse
+unfolding lower lowered bytes blank digit letter run past some starts tag multispace0 closing inside comment no_digit sign ignored_hyphen_or_plus ignored skip space decimal parse_uint dec_uint_str dec_uint plus_or_minus alpha1 same named zero_filled nanoseconds nonzero lost point_or_comma fraction sec_and_nsec signed signed_number ordinals text_ordinal number_ordinal ordinal direction rounded second_words second_word signed_seconds seconds days units stripped in_unit displaced displacement parse
 fractions = (refl, refl, refl, refl, refl, refl, refl, refl, refl, refl)
 
 -- The last numbers that fit: a number of days that no i32 holds is no match, and so is a number that no ordinal is.
@@ -49,7 +49,7 @@ limits : (reads parse "153391689 fortnights" ≡ matched (Days (pos 2147483646))
     × (reads parse "306783378 weeks ago" ≡ matched (Days (negsuc 2147483645)) 19) × (reads parse "-306783379 weeks" ≡ none)
     × (reads parse "2147483647 days ago" ≡ matched (Days (negsuc 2147483646)) 19) × (reads parse "2147483648 days" ≡ none)
     × (reads parse "-2147483648 days" ≡ none)
-unfolding lower lowered bytes blank digit letter run past some starts tag multispace0 closing inside comment no_digit sign ignored_hyphen_or_plus ignored skip space decimal parse_uint dec_uint_str dec_uint plus_or_minus alpha1 same named padded nanoseconds nonzero lost point_or_comma fraction sec_and_nsec signed signed_number ordinals text_ordinal number_ordinal ordinal direction rounded second_words second_word signed_seconds seconds days units stripped in_unit displaced displacement parse
+unfolding lower lowered bytes blank digit letter run past some starts tag multispace0 closing inside comment no_digit sign ignored_hyphen_or_plus ignored skip space decimal parse_uint dec_uint_str dec_uint plus_or_minus alpha1 same named zero_filled nanoseconds nonzero lost point_or_comma fraction sec_and_nsec signed signed_number ordinals text_ordinal number_ordinal ordinal direction rounded second_words second_word signed_seconds seconds days units stripped in_unit displaced displacement parse
 limits = (refl, refl, refl, refl, refl, refl, refl)
 
 -- A direction is a beginning; an ordinal that was read is kept; words outside the domain are not read; comments stand between tokens.
@@ -58,5 +58,5 @@ corners : (reads parse "day agog" ≡ matched (Days (negsuc 0)) 7) × (reads par
     × (reads parse "last" ≡ none) × (reads parse "last monday" ≡ none) × (reads parse "tomorrow" ≡ none) × (reads parse "now" ≡ none)
     × (reads parse "today" ≡ none) × (reads parse "yesterday" ≡ none) × (reads parse "- 3 (c) days" ≡ matched (Days (negsuc 2)) 12)
     × (reads parse "-(c)3 days" ≡ matched (Days (pos 3)) 10) × (reads parse "" ≡ none) × (reads parse "12" ≡ none)
-unfolding lower lowered bytes blank digit letter run past some starts tag multispace0 closing inside comment no_digit sign ignored_hyphen_or_plus ignored skip space decimal parse_uint dec_uint_str dec_uint plus_or_minus alpha1 same named padded nanoseconds nonzero lost point_or_comma fraction sec_and_nsec signed signed_number ordinals text_ordinal number_ordinal ordinal direction rounded second_words second_word signed_seconds seconds days units stripped in_unit displaced displacement parse
+unfolding lower lowered bytes blank digit letter run past some starts tag multispace0 closing inside comment no_digit sign ignored_hyphen_or_plus ignored skip space decimal parse_uint dec_uint_str dec_uint plus_or_minus alpha1 same named zero_filled nanoseconds nonzero lost point_or_comma fraction sec_and_nsec signed signed_number ordinals text_ordinal number_ordinal ordinal direction rounded second_words second_word signed_seconds seconds days units stripped in_unit displaced displacement parse
 corners = (refl, refl, refl, refl, refl, refl, refl, refl, refl, refl, refl, refl, refl, refl, refl)

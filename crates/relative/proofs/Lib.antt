@@ -3,3 +3,5 @@ pub mod Spaced
 pub mod Signed
 pub mod Units
 pub mod Examples
+pub mod Forms
+pub mod Forward

@@ -4,12 +4,12 @@ use borrow.Author.Tests.{eq-eqb, ne_eqb, lt-ltb, le-ltb}
 use Prim.Native.Nat.{zero-le, ◌+◌, ℕ, ◌<◌, ◌≤◌, ◌^◌}
 use mathlib.Core.Path.{◌≡◌, refl, sym}
 use mathlib.Core.List.{List, [], ◌∷◌, ◌++◌}
-use mathlib.Core.Bool.{Bool, true, false}
+use mathlib.Core.Bool.{Bool, true, false, cond}
 use Prim.Native.String.{String}
 use lib.ListN.{length}
 use lib.Dec.{eqb, ltb}
 use lib.IntN.{ℤ}
-use Rattle.primitive.specs.Answer.{Answer, matched, none, if, and_then}
+use Rattle.primitive.specs.Answer.{Answer, matched, none, and_then}
 use Rattle.primitive.specs.Text.{lower, lowered, bytes}
 use Rattle.primitive.specs.Primitive.{same, named}
 use Rattle.primitive.specs.declared.SecAndNsec.{SecAndNsec}
@@ -21,17 +21,17 @@ use Rattle.relative.proofs.Chain.{relatives}
 
 -- ---- the `s` at the end of a word
 
-stripped_last : (w : List ℕ) (b : ℕ) → stripped (w ++ (b ∷ [])) ≡ if (eqb b 115) w (w ++ (b ∷ []))
+stripped_last : (w : List ℕ) (b : ℕ) → stripped (w ++ (b ∷ [])) ≡ cond (eqb b 115) w (w ++ (b ∷ []))
 unfolding stripped
 stripped_last [] b = refl
 stripped_last (x ∷ []) b = go (eqb b 115)
   where
-    go : (t : Bool) → x ∷ if t [] (b ∷ []) ≡ if t (x ∷ []) (x ∷ (b ∷ []))
+    go : (t : Bool) → x ∷ cond t [] (b ∷ []) ≡ cond t (x ∷ []) (x ∷ (b ∷ []))
     go true = refl
     go false = refl
 stripped_last (x ∷ (y ∷ ys)) b = rw (stripped_last (y ∷ ys) b) (go (eqb b 115))
   where
-    go : (t : Bool) → x ∷ if t (y ∷ ys) (y ∷ (ys ++ (b ∷ []))) ≡ if t (x ∷ (y ∷ ys)) (x ∷ (y ∷ (ys ++ (b ∷ []))))
+    go : (t : Bool) → x ∷ cond t (y ∷ ys) (y ∷ (ys ++ (b ∷ []))) ≡ cond t (x ∷ (y ∷ ys)) (x ∷ (y ∷ (ys ++ (b ∷ []))))
     go true = refl
     go false = refl
 
@@ -62,7 +62,7 @@ unfolding named given_by
 named_by f [] w text at = refl
 named_by f (e ∷ es) w text at = go (same w (bytes e.0)) (named_by f es w text at)
   where
-    go : (t : Bool) → named (given_by f es) w text at ≡ and_then (named es w text at) (λ v n. matched (f v) n) → if t (matched (f e.1) at) (named (given_by f es) w text at) ≡ and_then (if t (matched e.1 at) (named es w text at)) (λ v n. matched (f v) n)
+    go : (t : Bool) → named (given_by f es) w text at ≡ and_then (named es w text at) (λ v n. matched (f v) n) → cond t (matched (f e.1) at) (named (given_by f es) w text at) ≡ and_then (cond t (matched e.1 at) (named es w text at)) (λ v n. matched (f v) n)
     go true e = refl
     go false e = e
 
@@ -79,10 +79,10 @@ pub in_unit_of : (q : Answer Relative) (m n : ℤ) (w text : List ℕ) (next : �
 in_unit_of q m n w text next e f = rw (← f) e
 
 module _ (v : SecAndNsec ℕ) (next : ℕ) where
-  pub rounded_in : (r : Relative) (t u : Bool) → r ≡ rounded t (record { sec = v.sec; nsec = v.nsec }) → t ≡ u → v.sec ≤ 9223372036854775807 → matched r next ≡ if (ltb v.sec (2 ^ 63)) (matched (rounded u v) next) none
+  pub rounded_in : (r : Relative) (t u : Bool) → r ≡ rounded t (record { sec = v.sec; nsec = v.nsec }) → t ≡ u → v.sec ≤ 9223372036854775807 → matched r next ≡ cond (ltb v.sec (2 ^ 63)) (matched (rounded u v) next) none
   rounded_in r t u e f h = rw (lt-ltb v.sec 9223372036854775808 (omega arith), ← f, e)
 
-  pub rounded_out : (r : Relative) → 9223372036854775807 < v.sec → none ≡ if (ltb v.sec (2 ^ 63)) (matched r next) none
+  pub rounded_out : (r : Relative) → 9223372036854775807 < v.sec → none ≡ cond (ltb v.sec (2 ^ 63)) (matched r next) none
   rounded_out r h = rw (le-ltb v.sec 9223372036854775808 (omega arith))
 
 pub ruleset turned = (in_unit_of, rounded_in, rounded_out, limits, relatives)

@@ -1,9 +1,9 @@
 -- Relative items, in the order of items/relative.rs. 29.7: "Relative items adjust a date (or the current date if none) forward or
 -- backward."
-use Rattle.std.specs.Prelude.{ℕ, ◌+◌, ◌-◌, ◌^◌, List, [], ◌∷◌, Bool, true, false, not, ltb, eqb, ℤ, pos, neg_ℤ, ◌*ℤ◌}
+use Rattle.std.specs.Prelude.{ℕ, ◌+◌, ◌-◌, ◌^◌, List, [], ◌∷◌, Bool, true, false, not, ltb, eqb, ℤ, pos, neg_ℤ, ◌*ℤ◌, cond}
 use Prim.Native.String.{String}
 use Rattle.std.specs.Int.Signed.{mag}
-use Rattle.primitive.specs.Answer.{Reader, if, ◌>>=◌, ◌>>◌, ◌<|>◌, pure, value, optional, verify}
+use Rattle.primitive.specs.Answer.{Reader, ◌>>=◌, ◌>>◌, ◌<|>◌, pure, value, optional, verify}
 use Rattle.primitive.specs.Text.{quoted}
 use Rattle.primitive.specs.Primitive.{spaced, plus_or_minus, alpha1, named}
 use Rattle.primitive.specs.Epoch.{sec_and_nsec}
@@ -24,7 +24,7 @@ direction = optional false (value true (spaced (quoted "ago")) <|> value false (
 -- Document 01, items/relative.rs: `seconds` rounds down. True for minus.
 unfoldable pub rounded : Bool → SecAndNsec ℕ → Relative
 rounded false v = Seconds (pos v.sec) v.nsec
-rounded true v = if (eqb v.nsec 0) (Seconds (signed true v.sec) 0) (Seconds (signed true (v.sec + 1)) (1000000000 - v.nsec))
+rounded true v = cond (eqb v.nsec 0) (Seconds (signed true v.sec) 0) (Seconds (signed true (v.sec + 1)) (1000000000 - v.nsec))
 
 -- 29.7: "'second' or 'sec' worth one second. An 's' suffix on these units is accepted and ignored."
 unfoldable pub second_words : List (String × Unit {0})
@@ -41,7 +41,7 @@ signed_seconds negative = do
   v ← spaced sec_and_nsec
   second_word
   ago ← direction
-  verify (ltb v.sec (2 ^ 63)) (rounded (if ago (not negative) negative) v)
+  verify (ltb v.sec (2 ^ 63)) (rounded (cond ago (not negative) negative) v)
 
 -- 29.7: "an optionally signed number". The manual knows no fraction here; the Rust reads one for seconds.
 unfoldable pub seconds : Reader Relative
@@ -67,7 +67,7 @@ units =
 -- 29.7: "An 's' suffix on these units is accepted and ignored." `s` is 115.
 unfoldable pub stripped : List ℕ → List ℕ
 stripped [] = []
-stripped (b ∷ []) = if (eqb b 115) [] (b ∷ [])
+stripped (b ∷ []) = cond (eqb b 115) [] (b ∷ [])
 stripped (b ∷ (c ∷ bs)) = b ∷ stripped (c ∷ bs)
 
 -- the unit that a word names, n times
@@ -80,7 +80,7 @@ unfoldable pub displaced : ℤ → Reader Relative
 displaced n = do
   w ← spaced alpha1
   ago ← direction
-  in_unit (if ago (neg_ℤ n) n) w
+  in_unit (cond ago (neg_ℤ n) n) w
 
 -- 29.7: "The unit of time may be preceded by a multiplier, given as an optionally signed number. .. No number at all implies 1 for a
 -- multiplier." 29.1: ordinal words too. An ordinal that was read is kept, whatever follows it.

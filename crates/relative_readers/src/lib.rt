@@ -6,11 +6,12 @@
 
 #![tactic(auto)]
 
+pub mod seconds;
 pub mod unit;
 
-ghost use Rattle.std.specs.Prelude.{◌≡◌, ℕ, ◌<◌, ◌^◌, List, neg_ℤ};
+ghost use Rattle.std.specs.Prelude.{◌≡◌, ℕ, ◌<◌, ◌^◌, List, neg_ℤ, cond};
 ghost use Rattle.std.specs.Int.Signed.{mag};
-ghost use Rattle.primitive.specs.Answer.{if, answer_of, lossy_answer};
+ghost use Rattle.primitive.specs.Answer.{answer_of, lossy_answer};
 ghost use Rattle.primitive.specs.Text.{lowered};
 ghost use Rattle.relative.specs.Relative.{parse, displacement, displaced, in_unit, stripped};
 
@@ -21,7 +22,7 @@ use unit::Unit;
 pub fn parse(s: &[u8], at: usize) -> Option<(Relative, usize, bool)>
     ensures { lossy_answer result ≡ parse (lowered s.now) at }
 {
-    relative::seconds(s, at).or_else(|| {
+    seconds::seconds(s, at).or_else(|| {
         let (relative, next) = displacement(s, at)?;
         Some((relative, next, false))
     })
@@ -43,14 +44,14 @@ fn displaced(s: &[u8], at: usize, n: i32) -> Option<(Relative, usize)>
 {
     let start = spaces::space(s, at);
     let (word, end) = primitive::alpha1(s, start)?;
-    let (ago, next) = relative::direction(s, end);
+    let (ago, next) = seconds::direction(s, end);
     in_unit(word, multiplier(ago, n), next)
 }
 
 // n, or -n for `ago`.
 fn multiplier(ago: bool, n: i32) -> i32
     requires { mag (neg_ℤ n) < 2 ^ 31 }
-    ensures { result ≡ if ago (neg_ℤ n) n }
+    ensures { result ≡ cond ago (neg_ℤ n) n }
 {
     if ago { -n } else { n }
 }
@@ -84,7 +85,7 @@ fn stem(word: &[u8]) -> &[u8]
     let Some((last, front)) = word.split_last() else {
         return word;
     };
-    if primitive::to_lower(*last) == 115 {
+    if primitive::to_lower(*last) == b's' {
         front
     } else {
         word

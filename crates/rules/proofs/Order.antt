@@ -9,23 +9,23 @@ use mathlib.Core.Path.{◌≡◌, refl, sym}
 use mathlib.Core.List.{List, [], ◌∷◌, ◌++◌, append-nil, append_assoc}
 use lib.ListN.{length, take, set}
 use lib.Seq.{take-set-le, take-suc-set}
-use Rattle.extended.specs.Outcome.{Outcome, accepted, refused}
-use Rattle.rules.specs.Rules.{empty, set_item, onward, gather, heed, relative_of, relatives}
+use Rattle.answers.specs.Outcome.{Outcome, accepted, refused}
+use Rattle.rules.specs.Rules.{empty, set_item, onward, gather, add_item, relative_of, relatives}
 use Rattle.rules.specs.declared.DateTimeBuilder.{DateTimeBuilder}
 
-gather_more : (digits : List ℕ) (i : ℕ) (b : DateTimeBuilder) (xs : List Item) (x : Item) → gather digits i b (xs ++ (x ∷ [])) ≡ heed digits (i + length xs) x (gather digits i b xs)
-unfolding gather heed
+gather_more : (digits : List ℕ) (i : ℕ) (b : DateTimeBuilder) (xs : List Item) (x : Item) → gather digits i b (xs ++ (x ∷ [])) ≡ add_item digits (i + length xs) x (gather digits i b xs)
+unfolding gather add_item
 gather_more digits i b [] x = rw (add-zero i) refl
 gather_more digits i b (y ∷ xs) x = by (λ next. gather_more digits (suc i) next xs x) (set_item digits b y)
   where
     by :
-        ((next : DateTimeBuilder) → gather digits (suc i) next (xs ++ (x ∷ [])) ≡ heed digits (suc i + length xs) x (gather digits (suc i) next xs)) → (o : Outcome DateTimeBuilder) →
-        onward i o (λ next. gather digits (suc i) next (xs ++ (x ∷ []))) ≡ heed digits (i + suc (length xs)) x (onward i o (λ next. gather digits (suc i) next xs))
+        ((next : DateTimeBuilder) → gather digits (suc i) next (xs ++ (x ∷ [])) ≡ add_item digits (suc i + length xs) x (gather digits (suc i) next xs)) → (o : Outcome DateTimeBuilder) →
+        onward i o (λ next. gather digits (suc i) next (xs ++ (x ∷ []))) ≡ add_item digits (i + suc (length xs)) x (onward i o (λ next. gather digits (suc i) next xs))
     by later (accepted next) = let e : i + suc (length xs) ≡ suc i + length xs = omega arith in rw e (later next)
     by later (refused n) = refl
 
 -- the rules of the items from the first on
-pub rules_more : (digits : List ℕ) (xs : List Item) (x : Item) → gather digits 0 empty (xs ++ (x ∷ [])) ≡ heed digits (length xs) x (gather digits 0 empty xs)
+pub rules_more : (digits : List ℕ) (xs : List Item) (x : Item) → gather digits 0 empty (xs ++ (x ∷ [])) ≡ add_item digits (length xs) x (gather digits 0 empty xs)
 rules_more digits xs x = let e : length xs ≡ 0 + length xs = omega arith in rw e (gather_more digits 0 empty xs x)
 
 pub relatives_more : (xs : List Item) (x : Item) → relatives (xs ++ (x ∷ [])) ≡ relatives xs ++ relative_of x

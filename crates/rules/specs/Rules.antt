@@ -1,12 +1,13 @@
 -- Which items may stand together: document 01, 'items/weekday.rs, items/builder.rs', and 29.1: "A date is a string, possibly empty,
 -- containing many items separated by whitespace .. The order of the items is not important."
-use Rattle.std.specs.Prelude.{Option, Some, None, is_some}
+use Rattle.answers.specs.Numbers as refusal
+use Rattle.std.specs.Prelude.{Option, Some, None, is_some, cond}
 use Rattle.rules.specs.declared.Zone.{Zone}
 use Rattle.relative.specs.declared.Relative.{Relative}
 use Rattle.std.specs.Prelude.{ℕ, suc, ◌+◌, ◌-◌, Bool, false, not, ◌&&◌, ◌||◌, List, [], ◌∷◌, ◌++◌, leb, eqb}
 use Rattle.std.proofs.Math.Seq.{slice}
-use Rattle.extended.specs.Outcome.{Outcome, accepted, refused, check, ◌>>=◌, ◌>>◌}
-use Rattle.primitive.specs.Answer.{Answer, matched, dropped, none, stop, if}
+use Rattle.answers.specs.Outcome.{Outcome, accepted, refused, check, ◌>>=◌, ◌>>◌}
+use Rattle.primitive.specs.Answer.{Answer, matched, dropped, none, stop}
 use Rattle.primitive.specs.Primitive.{parse_uint}
 use Rattle.dates.specs.Year.{year_from_str}
 use Rattle.dates.specs.declared.date.Date.{Date}
@@ -16,8 +17,8 @@ use Rattle.items.specs.declared.Weekday.{Weekday}
 use Rattle.items.specs.declared.Pure.{Pure}
 use Rattle.items.specs.declared.Item.{Item}
 use Rattle.items.specs.declared.Item.TheVariants as item
-use Rattle.extended.specs.Placed as placed
-use Rattle.extended.specs.Placed.{Placed, fine, refusal}
+use Rattle.answers.specs.Placed as placed
+use Rattle.answers.specs.Placed.{Placed, fine, refusal}
 use Rattle.rules.specs.declared.Zone.TheVariants as zone
 use Rattle.rules.specs.declared.DateTimeBuilder.{DateTimeBuilder}
 
@@ -43,25 +44,25 @@ with_date b d = record { date = Some d; time = b.time; weekday = b.weekday; zone
 
 unfoldable pub set_date : DateTimeBuilder → Date → Outcome DateTimeBuilder
 set_date b d = do
-  check (not (is_some b.date)) 6
+  check (not (is_some b.date)) refusal.twice
   accepted (with_date b d)
 
 -- "A time with an offset after a zone item is 7"
 unfoldable pub set_time : DateTimeBuilder → Time → Outcome DateTimeBuilder
 set_time b t = do
-  check (not (is_some b.time)) 6
-  check (not (is_some b.zone && is_some t.offset)) 7
+  check (not (is_some b.time)) refusal.twice
+  check (not (is_some b.zone && is_some t.offset)) refusal.rival
   accepted (record { date = b.date; time = Some t; weekday = b.weekday; zone = b.zone })
 
 unfoldable pub set_weekday : DateTimeBuilder → Weekday → Outcome DateTimeBuilder
 set_weekday b w = do
-  check (not (is_some b.weekday)) 6
+  check (not (is_some b.weekday)) refusal.twice
   accepted (record { date = b.date; time = b.time; weekday = Some w; zone = b.zone })
 
 -- "a zone item after such a time is 6"
 unfoldable pub set_zone : DateTimeBuilder → Option Zone → Outcome DateTimeBuilder
 set_zone b z = do
-  check (not (is_some b.zone || has_offset b.time)) 6
+  check (not (is_some b.zone || has_offset b.time)) refusal.twice
   accepted (record { date = b.date; time = b.time; weekday = b.weekday; zone = z })
 
 unfoldable pub set_date_time : DateTimeBuilder → DateTime → Outcome DateTimeBuilder
@@ -84,7 +85,7 @@ date_of_year d y = record { day = d.day; month = d.month; year = Some y }
 -- "A pure number after a date without year becomes the year": 9 for "a pure year no u32", or one past the last
 unfoldable pub set_pure_year : List ℕ → DateTimeBuilder → Date → ℕ → ℕ → Outcome DateTimeBuilder
 set_pure_year digits b d from to = do
-  y ← wanted 9 (year_from_str (slice from to digits) digits to)
+  y ← wanted refusal.over (year_from_str (slice from to digits) digits to)
   accepted (with_date b (date_of_year d y))
 
 abbrev pub clock : ℕ → ℕ → Time
@@ -93,21 +94,21 @@ clock h m = record { hour = h; minute = m; second = 0; nanosecond = 0; offset = 
 -- 8: "pure number no hour and minute"
 unfoldable pub set_hour : List ℕ → DateTimeBuilder → ℕ → ℕ → Outcome DateTimeBuilder
 set_hour digits b from to = do
-  h ← wanted 8 (parse_uint 23 (slice from to digits) digits to)
+  h ← wanted refusal.pure (parse_uint 23 (slice from to digits) digits to)
   set_time b (clock h 0)
 
 unfoldable pub set_hour_and_minute : List ℕ → DateTimeBuilder → ℕ → ℕ → ℕ → Outcome DateTimeBuilder
 set_hour_and_minute digits b from middle to = do
-  h ← wanted 8 (parse_uint 23 (slice from middle digits) digits middle)
-  m ← wanted 8 (parse_uint 59 (slice middle to digits) digits to)
+  h ← wanted refusal.pure (parse_uint 23 (slice from middle digits) digits middle)
+  m ← wanted refusal.pure (parse_uint 59 (slice middle to digits) digits to)
   set_time b (clock h m)
 
 -- "Otherwise it is an hour (1 or 2 digits) or hour and minute (3 or 4)."
 unfoldable pub set_pure_time : List ℕ → DateTimeBuilder → Pure → Outcome DateTimeBuilder
 set_pure_time digits b p = do
-  check (leb 1 p.length) 8
-  check (leb p.length 4) 8
-  if (leb p.length 2) (set_hour digits b p.start (p.start + p.length))
+  check (leb 1 p.length) refusal.pure
+  check (leb p.length 4) refusal.pure
+  cond (leb p.length 2) (set_hour digits b p.start (p.start + p.length))
       (set_hour_and_minute digits b p.start (p.start + p.length - 2) (p.start + p.length))
 
 abbrev pub pure_year : List ℕ → DateTimeBuilder → Pure → Date → Option ℕ → Outcome DateTimeBuilder
@@ -136,7 +137,7 @@ set_item digits b (item.Pure p) = set_pure digits b p
 
 -- the place of a rule's refusal: the item's index, and 0 for a pure year
 unfoldable pub rule_place : ℕ → ℕ → ℕ
-rule_place n i = if (eqb n 9) 0 i
+rule_place n i = cond (eqb n refusal.over) 0 i
 
 -- The rules are tried in item order, of which the first has index i.
 abbrev pub onward : ℕ → Outcome DateTimeBuilder → (DateTimeBuilder → Placed DateTimeBuilder) → Placed DateTimeBuilder
@@ -148,8 +149,8 @@ gather digits i b [] = fine b
 gather digits i b (x ∷ xs) = onward i (set_item digits b x) (λ next. gather digits (suc i) next xs)
 
 -- the rules of one item more, of index i, behind those of the items before it
-unfoldable pub heed : List ℕ → ℕ → Item → Placed DateTimeBuilder → Placed DateTimeBuilder
-heed digits i x p = placed.◌>>=◌ p (λ b. onward i (set_item digits b x) fine)
+unfoldable pub add_item : List ℕ → ℕ → Item → Placed DateTimeBuilder → Placed DateTimeBuilder
+add_item digits i x p = placed.◌>>=◌ p (λ b. onward i (set_item digits b x) fine)
 
 -- the relative items, in their order
 abbrev pub relative_of : Item → List Relative

@@ -4,11 +4,11 @@
 #![tactic(auto)]
 
 ghost use Rattle.std.specs.Prelude.{◌≡◌, is_some};
-ghost use Rattle.extended.specs.Refusals.{outcome_of};
+ghost use Rattle.answers.specs.Refusals.{outcome_of};
 ghost use Rattle.rules.specs.Rules.{has_offset, empty, need_midnight, set_date, set_time, set_weekday, set_zone, set_date_time};
 
 use dates::date::Date;
-use extended::Refusal;
+use answers::Refusal;
 use items::Weekday;
 use items::combined::DateTime;
 use times::offset::Offset;

@@ -6,13 +6,14 @@ ghost use Rattle.std.specs.Prelude.{◌≡◌, length, ◌≤◌};
 ghost use Rattle.extended.specs.Calendar.{month_days};
 ghost use Rattle.extended.specs.Extended.{make, date, time, accept, from_unix_seconds, unix_seconds, add_days, add_hours, add_minutes, add_seconds, add_years, add_months, weekday_monday0, day_of_year};
 ghost use Rattle.writer.specs.Writer.{written, bytes_of, written_answer, over};
-ghost use Rattle.extended.specs.Placed.{place_of};
-ghost use Rattle.extended.specs.Refusals.{placed_of};
+ghost use Rattle.answers.specs.Placed.{place_of};
+ghost use Rattle.answers.specs.Refusals.{placed_of};
 ghost use Rattle.text_general.specs.Reading.{read_text};
 ghost use Rattle.packet.specs.Packet.{read_packet};
 ghost use Rattle.host_answers.specs.Hosts.{record_answer, moment_answer, number_answer, placed_answer};
 
-use extended::{DateParts, ExtendedDateTime, PlacedRefusal, TimeParts};
+use answers::PlacedRefusal;
+use extended::{DateParts, ExtendedDateTime, TimeParts};
 use host_answers::{Answer, Moment, Number, Record};
 use writer::Written;
 

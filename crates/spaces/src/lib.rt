@@ -20,7 +20,7 @@ pub fn space(s: &[u8], at: usize) -> usize
     if 45 < b {
         return at;
     }
-    if b == 32 {
+    if b == b' ' {
         let next = at + 1;
         if next < s.len() {
             if 45 < s[next] {
@@ -45,10 +45,10 @@ fn signed_digit(s: &[u8], at: usize) -> bool
     if s.len() <= next {
         return false;
     }
-    if s[at] == 43 {
+    if s[at] == b'+' {
         return primitive::is_digit(s[next]);
     }
-    if s[at] == 45 {
+    if s[at] == b'-' {
         return primitive::is_digit(s[next]);
     }
     false
@@ -104,14 +104,14 @@ fn ignored_hyphen_or_plus(s: &[u8], at: usize) -> Option<usize>
 fn comment(s: &[u8], at: usize) -> Option<usize>
     ensures { place_answer result ≡ comment (lowered s.now) at }
 {
-    let start = primitive::byte(s, at, 40)?;
+    let start = primitive::byte(s, at, b'(')?;
     let (_, all_but_last) = s.split_last()?;
     let mut i = start;
     // a step over an inner comment is as long as that comment, so `for` doesn't fit
     while i < s.len() {
         match s[i] {
-            40 => i = comment(all_but_last, i)?,
-            41 => return Some(i + 1),
+            b'(' => i = comment(all_but_last, i)?,
+            b')' => return Some(i + 1),
             _ => i += 1,
         }
     }
@@ -131,7 +131,7 @@ pub fn spaced_hyphen(s: &[u8], at: usize) -> Option<usize>
     ensures { place_answer result ≡ spaced (byte 45) (lowered s.now) at }
 {
     if at < s.len() {
-        if s[at] == 45 {
+        if s[at] == b'-' {
             let next = at + 1;
             if next < s.len() {
                 if primitive::is_digit(s[next]) {
@@ -147,7 +147,7 @@ pub fn spaced_hyphen(s: &[u8], at: usize) -> Option<usize>
 pub fn colon(s: &[u8], at: usize) -> Option<usize>
     ensures { place_answer result ≡ colon (lowered s.now) at }
 {
-    spaced_byte(s, at, 58)
+    spaced_byte(s, at, b':')
 }
 
 // A plus or minus, behind space.

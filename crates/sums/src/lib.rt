@@ -5,10 +5,11 @@
 #![tactic(auto)]
 
 ghost use Rattle.std.specs.Prelude.{◌≡◌, ◌+◌, ◌-◌, ◌*◌, ◌≤◌, pos};
-ghost use Rattle.extended.specs.Refusals.{outcome_of};
+ghost use Rattle.answers.specs.Refusals.{outcome_of};
 ghost use Rattle.extended.specs.Extended.{add_units, add_days, add_hours, add_minutes, clamp, add_years, add_months};
 
-use extended::{ExtendedDateTime, Refusal};
+use answers::Refusal;
+use extended::ExtendedDateTime;
 
 const SECONDS_PER_DAY: u32 = 86400;
 

@@ -4,17 +4,16 @@ use borrow.Author.Tests.{lt-ltb, le-ltb, lt-leb, le-leb, leb-true}
 use native.Mathlib.Omega.{arith}
 use Prim.Native.Nat.{ℕ, ◌+◌, ◌<◌, ◌≤◌}
 use mathlib.Core.Path.{◌≡◌, refl, sym}
-use mathlib.Core.Bool.{Bool, true, false, ◌&&◌}
+use mathlib.Core.Bool.{Bool, true, false, ◌&&◌, cond}
 use lib.Dec.{leb, ltb}
 use mathlib.Core.List.{List}
 use lib.ListN.{length}
-use Rattle.primitive.specs.Answer.{if}
 use Rattle.primitive.specs.Text.{lower, lowered}
 use Rattle.primitive.proofs.Lowered.{length_lowered, lower_above}
-use Rattle.extended.specs.Outcome.{accepted, refused}
+use Rattle.answers.specs.Outcome.{accepted, refused}
 use Rattle.extended.specs.Extended.{test}
 use Rattle.extended.specs.declared.ExtendedDateTime.{ExtendedDateTime}
-use Rattle.extended.specs.Placed.{Placed, refusal}
+use Rattle.answers.specs.Placed.{Placed, refusal}
 use Rattle.text_general.specs.Reading.{ascii, ascii_end, build_text, read_parsed, read_text}
 
 -- ---- bytes below 128
@@ -27,7 +26,7 @@ pub ascii_low : (b : ℕ) → b < 128 → true ≡ ascii (lower b)
 unfolding ascii lower
 ascii_low b h = go (leb 65 b) (leb b 90) refl
   where
-    go : (t u : Bool) → leb b 90 ≡ u → true ≡ ltb (if (t && u) (b + 32) b) 128
+    go : (t u : Bool) → leb b 90 ≡ u → true ≡ ltb (cond (t && u) (b + 32) b) 128
     go true true e = sym (lt-ltb (b + 32) 128 (omega (arith, leb-true b 90 e)))
     go true false e = sym (lt-ltb b 128 h)
     go false u e = sym (lt-ltb b 128 h)

@@ -5,9 +5,9 @@ use mathlib.Core.List.{List}
 use lib.Dec.{leb}
 use lib.ListN.{length}
 use Rattle.primitive.specs.Text.{lowered}
-use Rattle.extended.specs.Outcome.{Outcome, check}
+use Rattle.answers.specs.Outcome.{Outcome, check}
 use Rattle.extended.specs.Extended.{test}
-use Rattle.extended.specs.Placed.{Placed, fine, refusal, placed, number_of, ◌>>◌}
+use Rattle.answers.specs.Placed.{Placed, fine, refusal, placed, number_of, ◌>>◌}
 use Rattle.extended.specs.declared.ExtendedDateTime.{ExtendedDateTime}
 use Rattle.items.specs.Items.{Parsed, parse_items, rust_items}
 use Rattle.items.proofs.Theorems.{same_items}

@@ -1,13 +1,14 @@
 -- A text read under a base: document 01, 'Domain and limits' and 'Answers by number'.
+use Rattle.answers.specs.Numbers as refusal
+use Rattle.answers.specs.Limits.{max_length}
 use Rattle.items.specs.declared.Item.{Item}
-use Rattle.std.specs.Prelude.{ℕ, Bool, List, [], ltb, leb, eqb, length}
-use Rattle.extended.specs.Outcome.{check}
+use Rattle.std.specs.Prelude.{ℕ, Bool, List, [], ltb, leb, eqb, length, cond}
+use Rattle.answers.specs.Outcome.{check}
 use Rattle.extended.specs.Extended.{test}
 use Rattle.extended.specs.declared.ExtendedDateTime.{ExtendedDateTime}
-use Rattle.primitive.specs.Answer.{if}
 use Rattle.primitive.specs.Text.{lowered, past}
 use Rattle.items.specs.Items.{Parsed, parse_items, rust_items}
-use Rattle.extended.specs.Placed.{Placed, fine, refusal, placed, ◌>>=◌, ◌>>◌}
+use Rattle.answers.specs.Placed.{Placed, fine, refusal, placed, ◌>>=◌, ◌>>◌}
 use Rattle.builder.specs.Building.{build}
 
 -- "Text has 0 to 4096 bytes, each below 128, read as lower case"
@@ -20,7 +21,7 @@ ascii_end text = past ascii text 0
 
 -- the items, or the number and the place where their reading ended
 unfoldable pub items_of : Parsed → Placed (List Item)
-items_of p = if (eqb p.number 0) (fine p.items) (refusal p.number p.place)
+items_of p = cond (eqb p.number 0) (fine p.items) (refusal p.number p.place)
 
 -- "items left to right; the builder's rules in item order; then building". No text has an item that comes by packet only.
 unfoldable pub build_parsed : Parsed → ExtendedDateTime → Placed ExtendedDateTime
@@ -35,8 +36,8 @@ build_text text base = build_parsed (parse_items text) base
 unfoldable pub read_parsed : Parsed → List ℕ → ExtendedDateTime → Placed ExtendedDateTime
 read_parsed p text base = do
   placed 0 (test base)
-  placed 0 (check (leb (length text) 4096) 1)
-  placed (ascii_end text) (check (leb (length text) (ascii_end text)) 2)
+  placed 0 (check (leb (length text) max_length) refusal.oversize)
+  placed (ascii_end text) (check (leb (length text) (ascii_end text)) refusal.foreign)
   build_parsed p base
 
 unfoldable pub read_text : List ℕ → ExtendedDateTime → Placed ExtendedDateTime

@@ -5,17 +5,13 @@
 
 ghost use Rattle.std.specs.Prelude.{◌≡◌};
 ghost use Rattle.primitive.specs.Text.{lower, lowered};
-ghost use Rattle.extended.specs.Refusals.{placed_of};
+ghost use Rattle.answers.specs.Refusals.{placed_of};
 ghost use Rattle.text_general.specs.Reading.{ascii, ascii_end, build_text, read_text};
 
-use extended::{ExtendedDateTime, PlacedRefusal, Refusal};
-use gather::Heeded;
+use answers::{MAX_LENGTH, MOST_ITEMS, PlacedRefusal, Refusal};
+use extended::ExtendedDateTime;
+use gather::Gathered;
 use primitive::Miss;
-
-// The longest text that is read.
-const MAX_LENGTH: usize = 4096;
-
-const MOST_ITEMS: usize = 64;
 
 #[tactic(auto, using(crate::proofs::Steps::steps))]
 pub fn read_text(text: &[u8], base: ExtendedDateTime) -> Result<ExtendedDateTime, PlacedRefusal>
@@ -55,12 +51,12 @@ fn is_ascii(byte: u8) -> bool
 }
 
 // The record of a text's items, 64 at most: 1 where a 65th is read, 3 where no reader matches, 4 where one stops and 22 where an item lost
-// a digit, these three at the end of the item before. Each item is heeded as it is read, and none is kept but the relative ones; a broken
+// a digit, these three at the end of the item before. Each item is gathered as it is read, and none is kept but the relative ones; a broken
 // rule is answered after the last.
 fn build_text(text: &[u8], base: ExtendedDateTime) -> Result<ExtendedDateTime, PlacedRefusal>
     ensures { placed_of result ≡ build_text (lowered text.now) base }
 {
-    let mut heeded = Heeded::new();
+    let mut gathered = Gathered::new();
     let mut count = 0;
     let mut i = 0;
     // a step is as long as the item that was read, so there is no range
@@ -73,7 +69,7 @@ fn build_text(text: &[u8], base: ExtendedDateTime) -> Result<ExtendedDateTime, P
                 if dropped {
                     return Err(Refusal::Fraction.at(i));
                 }
-                heeded.heed(&[], item, count);
+                gathered.add_item(&[], item, count);
                 count += 1;
                 i = next;
             }
@@ -81,5 +77,5 @@ fn build_text(text: &[u8], base: ExtendedDateTime) -> Result<ExtendedDateTime, P
             Err(Miss::Stop) => return Err(Refusal::Stopped.at(i)),
         }
     }
-    builder::build(heeded.standing, heeded.relatives.as_slice(), base)
+    builder::build(gathered.builder, gathered.relatives.as_slice(), base)
 }

@@ -3,14 +3,14 @@
 use Prim.Native.Nat.{ℕ, ◌+◌, ◌-◌, ◌%◌, ◌<◌, ◌≤◌}
 use native.Mathlib.Omega.{arith}
 use mathlib.Core.Path.{◌≡◌, refl, ◌∙◌}
-use mathlib.Core.Bool.{Bool, true, false}
+use mathlib.Core.Bool.{Bool, true, false, cond}
 use mathlib.Core.List.{List, [], ◌∷◌, ◌++◌}
 use mathlib.Core.Logic.{◌⊎◌, inl, inr}
 use lib.Dec.{eqb}
 use lib.ListN.{length, get_or, drop, drop_of_length-le}
 use lib.Seq.{slice, length-slice}
 use borrow.Author.Tests.{lt-leb, le-leb, lt-ltb, ne_eqb}
-use Rattle.primitive.specs.Answer.{if, ◌>>◌}
+use Rattle.primitive.specs.Answer.{◌>>◌}
 use Rattle.primitive.specs.Text.{bytes, lower, lowered, blank, digit}
 use Rattle.primitive.specs.Primitive.{colon, decimal}
 use Rattle.primitive.proofs.Rows.{all, Number}
@@ -18,13 +18,13 @@ use Rattle.primitive.proofs.Lowered.{length_lowered, get_or_lowered}
 use Rattle.times.specs.Offset.{in_range}
 use Rattle.times.specs.Time.{second, optional_second, meridiem}
 use Rattle.items.specs.Combined.{starts_with_meridiem}
-use Rattle.theorems_forms.proofs.Walk.{Reads, Fails, at_once}
-use Rattle.theorems_forms.proofs.Leaves.{head, plain, number_head, number_still, still, blanks, colon_else, sign_of, nine_lose_none, seconds_read, fractional_read}
-use Rattle.theorems_forms.proofs.Leaves.{signed as sign-still}
-use Rattle.theorems_forms.proofs.Times.{iso_read, second_read, no_second, correction_given, no_correction, no_sign_correction, colon_correction_read, sign_no_digit, meridiem_read}
-use Rattle.theorems_forms.proofs.TimeItems.{time_12}
-use Rattle.theorems_forms.proofs.Combined.{iso_time, no_meridiem}
-use Rattle.theorems_forms.proofs.TwoItems.{nine_digits}
+use Rattle.primitive.proofs.Walk.{Reads, Fails, at_once}
+use Rattle.primitive.proofs.Leaves.{head, plain, number_head, number_still, still, blanks, colon_else, sign_of, nine_lose_none, seconds_read, fractional_read}
+use Rattle.primitive.proofs.Leaves.{sign_still}
+use Rattle.times.proofs.Forms.{iso_read, second_read, no_second, correction_given, no_correction, no_sign_correction, colon_correction_read, sign_no_digit, meridiem_read}
+use Rattle.items.proofs.TimeItems.{time_12}
+use Rattle.items.proofs.DateTimes.{iso_time, no_meridiem}
+use Rattle.items.proofs.TwoItems.{nine_digits}
 use Rattle.text_quick.specs.Rows.{Digits, Short}
 use Rattle.std.specs.Prelude.{Option, Some, None}
 use Rattle.times.specs.declared.offset.Offset.{Offset}
@@ -174,7 +174,7 @@ module _ (s : List ℕ) (at ns h m : ℕ) (some : 16 ≤ length s) (room : at �
             (second_read (number_head _ d) (fractional_read false d (omega arith) fs.number (nine_lose_none (slice (at + 1) (at + 1 + 9) (lowered s)) (omega arith)) (sign_no_digit west)) small');
         gap = gap;
         blanks = b;
-        correction = rw (← hs.value, ← ms.value) (correction_given (colon_correction_read west (still (sign-still west (number_head _ hs.number))) hs.number ms.number no_digit ok));
+        correction = rw (← hs.value, ← ms.value) (correction_given (colon_correction_read west (still (sign_still west (number_head _ hs.number))) hs.number ms.number no_digit ok));
         no_meridiem = f;
       }
 
@@ -229,7 +229,7 @@ module _ (s : List ℕ) (at next h m : ℕ) (hs : Short (lowered s) at h next) (
       ∙ rw (then_row s next (next + 1) (next + 1 + 2) 58 (next + 3) m refl (omega arith) colon refl (omega arith) minute_digits, then_byte s (next + 3) (next + 4) 32 (omega arith) gap refl (omega arith), then_byte s (next + 4) (next + 5) (meridiem_byte pm) (omega arith) byte (meridiem_byte_lem pm) (omega arith), then_byte s (next + 5) (next + 6) 109 (omega arith) last refl (omega arith), nothing_left (lowered s) (next + 6) ends)
 
   -- `9:30 am`
-  pub half_day_read : (v : ℕ) → v ≡ h % 12 + if pm 12 0 → HalfDay (lowered s) at v m 0 0 None (next + 6)
+  pub half_day_read : (v : ℕ) → v ≡ h % 12 + cond pm 12 0 → HalfDay (lowered s) at v m 0 0 None (next + 6)
   unfolding digit
   half_day_read v is =
       let size = length_lowered s in
@@ -246,6 +246,6 @@ module _ (s : List ℕ) (at next h m : ℕ) (hs : Short (lowered s) at h next) (
         reads = λ bs b. rw (half_written, is, ← hs.row.value, ← minute_digits.value) (time_12 bs b hs.row.number minute_digits.number first last' minute' refl (no_second (no_colon pm)) (meridiem_there pm));
       }
     where
-      below_24 : (p : Bool) → h % 12 + if p 12 0 < 24
+      below_24 : (p : Bool) → h % 12 + cond p 12 0 < 24
       below_24 true = omega arith
       below_24 false = omega arith

@@ -16,12 +16,12 @@ use Rattle.dates.specs.Date.{exists}
 use Rattle.dates.specs.Year.{widened}
 use Rattle.items.specs.Items.{iso_date, parse_item}
 use Rattle.items.specs.declared.Item.TheVariants as item
-use Rattle.theorems_forms.proofs.Walk.{Reads, first}
-use Rattle.theorems_forms.proofs.Leaves.{head, other, blank_no_digit, plain, number_head, number_still, still, blanks}
-use Rattle.theorems_forms.proofs.Dates.{Year, in_year, Ending, text_ends, blanks_end, with_it, here, iso1_read}
-use Rattle.theorems_forms.proofs.LiteralDates.{Month, month_still, no_hyphen_read, comma_read}
-use Rattle.theorems_forms.proofs.DateItems.{month_day_year, day_month, name_day}
-use Rattle.theorems_forms.proofs.TwoItems.{long_year}
+use Rattle.primitive.proofs.Walk.{Reads, first}
+use Rattle.primitive.proofs.Leaves.{head, other, blank_no_digit, plain, number_head, number_still, still, blanks}
+use Rattle.dates.proofs.Forms.{Year, in_year, Ending, text_ends, blanks_end, with_it, here, iso1_read}
+use Rattle.dates.proofs.LiteralForms.{Month, month_still, no_hyphen_read, comma_read}
+use Rattle.items.proofs.DateItems.{month_day_year, day_month, name_day}
+use Rattle.items.proofs.TwoItems.{long_year}
 use Rattle.text_quick.specs.Rows.{Digits, Short}
 use Rattle.calendar.specs.declared.Civil.{Civil}
 use Rattle.std.specs.Prelude.{Option, Some, None}

@@ -11,7 +11,7 @@ use lib.Seq.{slice, length-slice, take-take}
 use Rattle.primitive.specs.Text.{lowered, digit}
 use Rattle.primitive.specs.Primitive.{decimal}
 use Rattle.primitive.proofs.Rows.{both}
-use Rattle.theorems_forms.proofs.Dates.{all_joined}
+use Rattle.dates.proofs.Forms.{all_joined}
 use Rattle.primitive.proofs.Values.{decimal_more}
 use Rattle.primitive.proofs.Lowered.{length_lowered, get_or_lowered, digit_lower, digit_same, slice_first, slice_over}
 use Rattle.text_quick.specs.Rows.{DigitOf, RowAt, Digits, Short}

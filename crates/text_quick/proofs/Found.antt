@@ -2,13 +2,13 @@
 use Prim.Native.Nat.{ℕ, suc, ◌+◌, ◌<◌, ◌≤◌}
 use native.Mathlib.Omega.{arith}
 use mathlib.Core.Path.{◌≡◌, refl, sym, ap}
-use mathlib.Core.Bool.{Bool, true, false}
+use mathlib.Core.Bool.{Bool, true, false, cond}
 use mathlib.Core.List.{List, [], ◌∷◌, ◌++◌}
 use lib.Dec.{eqb, ltb, leb}
 use lib.ListN.{length, take, drop}
 use lib.Seq.{slice, drop-drop, length-slice}
 use borrow.Author.Tests.{eqb-true, ltb-true}
-use Rattle.primitive.specs.Answer.{Answer, matched, dropped, none, stop, if, and_then}
+use Rattle.primitive.specs.Answer.{Answer, matched, dropped, none, stop, and_then}
 use Rattle.primitive.specs.Text.{digit, run, past, some, starts, tag}
 use Rattle.primitive.specs.Primitive.{decimal, parse_uint, dec_uint_str, dec_uint}
 use Rattle.primitive.proofs.Rows.{all, halves, both}
@@ -23,7 +23,7 @@ unfolding run
 run_all p [] = refl
 run_all p (b ∷ bs) = go (p b) refl (run_all p bs)
   where
-    go : (t : Bool) → p b ≡ t → all p (take (run p bs) bs) ≡ true → all p (take (if t (suc (run p bs)) 0) (b ∷ bs)) ≡ true
+    go : (t : Bool) → p b ≡ t → all p (take (run p bs) bs) ≡ true → all p (take (cond t (suc (run p bs)) 0) (b ∷ bs)) ≡ true
     go true e h = both e h
     go false e h = refl
 
@@ -32,7 +32,7 @@ pub some_row : (p : ℕ → Bool) (text w : List ℕ) (at n : ℕ) → some p te
 unfolding some past
 some_row p text w at n = go (ltb at (at + run p (drop at text))) refl
   where
-    go : (t : Bool) → ltb at (at + run p (drop at text)) ≡ t → (if t (matched (slice at (at + run p (drop at text)) text) (at + run p (drop at text))) none) ≡ matched w n → (at < n) × ((w ≡ slice at n text) × (all p w ≡ true))
+    go : (t : Bool) → ltb at (at + run p (drop at text)) ≡ t → (cond t (matched (slice at (at + run p (drop at text)) text) (at + run p (drop at text))) none) ≡ matched w n → (at < n) × ((w ≡ slice at n text) × (all p w ≡ true))
     go true e f =
         let z : n ≡ at + run p (drop at text) = cc in
         let y : w ≡ slice at (at + run p (drop at text)) text = cc in
@@ -47,7 +47,7 @@ number_row max text at v n h e = go (some digit text at) refl e
     same_value : (w : List ℕ) (k : ℕ) → parse_uint max w text k ≡ matched v n → (decimal w ≡ v) × (k ≡ n)
     same_value w k = step (leb (decimal w) max)
       where
-        step : (t : Bool) → (if t (matched (decimal w) k) none) ≡ matched v n → (decimal w ≡ v) × (k ≡ n)
+        step : (t : Bool) → (cond t (matched (decimal w) k) none) ≡ matched v n → (decimal w ≡ v) × (k ≡ n)
         step true f = (cc, cc)
         step false f = let z : ◌≡◌ {A = ℕ} 0 1 = cc in absurd (clash z)
 
@@ -79,7 +79,7 @@ word_written : (w text : List ℕ) (at n : ℕ) → tag w text at ≡ matched (t
 unfolding tag
 word_written w text at n = go (starts w (drop at text)) refl
   where
-    go : (t : Bool) → starts w (drop at text) ≡ t → (if t (matched (tt {0}) (at + length w)) none) ≡ matched (tt {0}) n → drop at text ≡ w ++ drop n text
+    go : (t : Bool) → starts w (drop at text) ≡ t → (cond t (matched (tt {0}) (at + length w)) none) ≡ matched (tt {0}) n → drop at text ≡ w ++ drop n text
     go true e f = let z : n ≡ at + length w = cc in rw (z, ← drop-drop (length w) at text) (starts_with w (drop at text) e)
     go false e f = let z : ◌≡◌ {A = ℕ} 0 1 = cc in absurd (clash z)
 

@@ -17,11 +17,11 @@ use Rattle.items.specs.Combined.{parse_time_after_date}
 use Rattle.items.specs.Items.{parse_item, ended, parse_items}
 use Rattle.items.specs.declared.Item.{Item}
 use Rattle.items.specs.declared.Item.TheVariants as item
-use Rattle.theorems_forms.proofs.Walk.{Reads, Fails}
-use Rattle.theorems_forms.proofs.Leaves.{head, Still, plain, digit_still, still, blanks}
-use Rattle.theorems_forms.proofs.Items.{iso_date_alone}
-use Rattle.theorems_forms.proofs.Combined.{separator_of, separator_no_digit, combined_item, no_time_behind}
-use Rattle.theorems_forms.proofs.Lists.{no_more_items, one_item}
+use Rattle.primitive.proofs.Walk.{Reads, Fails}
+use Rattle.primitive.proofs.Leaves.{head, Still, plain, digit_still, still, blanks}
+use Rattle.items.proofs.Forms.{iso_date_alone}
+use Rattle.items.proofs.DateTimes.{separator_of, separator_no_digit, combined_item, no_time_behind}
+use Rattle.items.proofs.Lists.{no_more_items, one_item}
 use Rattle.text_quick.proofs.Places.{byte_there}
 use Rattle.text_quick.specs.Days.{day_of, Iso, Other}
 use Rattle.text_quick.specs.Clocks.{time_of, zone_small, Clock, HalfDay}

@@ -5,17 +5,17 @@ use Prim.Native.String.{String}
 use borrow.Author.Tests.{leb-true}
 use mathlib.Core.Path.{◌≡◌, refl, sym}
 use mathlib.Core.List.{List, [], ◌∷◌}
-use mathlib.Core.Bool.{Bool, true, false}
+use mathlib.Core.Bool.{Bool, true, false, cond}
 use lib.ListN.{length, get_or}
 use lib.Seq.{slice, length-slice}
 use lib.Dec.{leb}
-use Rattle.primitive.specs.Answer.{matched, if}
+use Rattle.primitive.specs.Answer.{matched}
 use Rattle.primitive.specs.Text.{lower, lowered, bytes, letter}
 use Rattle.primitive.specs.Primitive.{alpha1, same, named}
 use Rattle.primitive.proofs.Lowered.{length_lowered}
 use Rattle.primitive.proofs.Rows.{halves}
 use Rattle.dates.specs.Date.{months}
-use Rattle.theorems_forms.proofs.Tables.{every}
+use Rattle.primitive.proofs.WordTables.{every}
 use Rattle.text_quick.specs.Days.{Named}
 use Rattle.text_quick.proofs.Places.{mark}
 use Rattle.text_quick.proofs.Found.{some_row}
@@ -33,7 +33,7 @@ unfolding named
 entry_of [] w text k at n h e = let z : ◌≡◌ {A = ℕ} 0 1 = cc in absurd (omega arith)
 entry_of (x ∷ xs) w text k at n h e = go (same w (bytes x.0)) refl e (λ g. entry_of xs w text k at n (halves (leb x.1 12) _ h).1 g)
   where
-    go : (t : Bool) → same w (bytes x.0) ≡ t → matched k n ≡ if t (matched x.1 at) (named xs w text at) → (matched k n ≡ named xs w text at → Entry xs w k at n) → Entry (x ∷ xs) w k at n
+    go : (t : Bool) → same w (bytes x.0) ≡ t → matched k n ≡ cond t (matched x.1 at) (named xs w text at) → (matched k n ≡ named xs w text at → Entry xs w k at n) → Entry (x ∷ xs) w k at n
     go true f g behind =
         let small = leb-true x.1 12 (halves (leb x.1 12) _ h).0 in
         let z : k ≡ x.1 = cc in

@@ -9,7 +9,7 @@ use lib.ListN.{length, get_or, drop, take-append-drop}
 use lib.Seq.{slice, drop-cons}
 use Rattle.primitive.specs.Text.{lower, lowered}
 use Rattle.primitive.proofs.Lowered.{length_lowered, get_or_lowered}
-use Rattle.theorems_forms.proofs.Leaves.{head}
+use Rattle.primitive.proofs.Leaves.{head}
 
 pub part : (text : List ℕ) (a b : ℕ) → a ≤ b → drop a text ≡ slice a b text ++ drop b text
 part text zero b h = sym (take-append-drop b text)

@@ -4,7 +4,7 @@ use Prim.Native.Nat.{ℕ, zero, suc, ◌+◌, ◌-◌, ◌^◌, ◌*◌, ◌<◌
 use native.Mathlib.Omega.{arith}
 use mathlib.Core.Path.{◌≡◌, refl, sym, ap, ◌∙◌}
 use mathlib.Core.Logic.{inl, inr}
-use mathlib.Core.Bool.{Bool, true, false, ◌&&◌, not, beq}
+use mathlib.Core.Bool.{Bool, true, false, ◌&&◌, not, beq, cond}
 use mathlib.Core.List.{List, [], ◌∷◌, ◌++◌, append_assoc}
 use lib.Dec.{eqb}
 use lib.IntN.{ℤ, pos, neg_ℤ, ◌*ℤ◌}
@@ -18,7 +18,7 @@ use mir.Facts.{to_z-of_z}
 use Rattle.std.specs.List.{AllByRecursion}
 use Rattle.std.proofs.Common.{Bor}
 use Rattle.std.proofs.lemmas.List.Elements.{All-from_recursion}
-use Rattle.primitive.specs.Answer.{if, matched, none, place_answer, found_at}
+use Rattle.primitive.specs.Answer.{matched, none, place_answer, found_at}
 use Rattle.std.specs.Prelude.{Option, Some, None}
 use Rattle.std.specs.Option.{option_eq}
 use Rattle.primitive.specs.Text.{lower, lowered, bytes, blank, digit, letter, tag}
@@ -35,17 +35,17 @@ use Rattle.relative.specs.declared.Relative.{Relative}
 use Rattle.items.specs.Combined.{iso_alone, combined_time, parse_time_after_date}
 use Rattle.items.specs.Items.{parse_item}
 use Rattle.items.specs.declared.Item.TheVariants as item
-use Rattle.theorems_forms.proofs.Walk.{Reads, Fails, Spaces, ◌⟨◌⟩!◌, at_once, said}
-use Rattle.theorems_forms.proofs.Leaves.{head, plain, other, letter_still, number_head, number_still, still, blanks, sign_of}
-use Rattle.theorems_forms.proofs.Leaves.{signed as sign-still}
-use Rattle.theorems_forms.proofs.Tables.{lacks}
-use Rattle.theorems_forms.proofs.Times.{sign_no_digit, meridiem_else}
-use Rattle.theorems_forms.proofs.Dates.{short_no_date}
-use Rattle.theorems_forms.proofs.Items.{number_no_time}
-use Rattle.theorems_forms.proofs.Combined.{separator_read, hour_alone, no_time_behind}
-use Rattle.theorems_forms.proofs.Relative.{plural, turned, LongUnit, ago_read, no_direction, year_word, month_word, week_word, day_word, hour_word, minute_word, second_unit}
-use Rattle.theorems_forms.proofs.TwoItems.{rounded_signed, sign_lower}
-use Rattle.theorems_forms.proofs.RelativeItems.{OtherWord, tested, other_word, number_and_unit, signed_and_unit, seconds, signed_seconds}
+use Rattle.primitive.proofs.Walk.{Reads, Fails, Spaces, ◌⟨◌⟩!◌, at_once, said}
+use Rattle.primitive.proofs.Leaves.{head, plain, other, letter_still, number_head, number_still, still, blanks, sign_of}
+use Rattle.primitive.proofs.Leaves.{sign_still}
+use Rattle.primitive.proofs.WordTables.{lacks}
+use Rattle.times.proofs.Forms.{sign_no_digit, meridiem_else}
+use Rattle.dates.proofs.Forms.{short_no_date}
+use Rattle.items.proofs.Forms.{number_no_time}
+use Rattle.items.proofs.DateTimes.{separator_read, hour_alone, no_time_behind}
+use Rattle.relative.proofs.Forms.{plural, turned, LongUnit, ago_read, no_direction, year_word, month_word, week_word, day_word, hour_word, minute_word, second_unit}
+use Rattle.items.proofs.TwoItems.{rounded_signed, sign_lower}
+use Rattle.items.proofs.RelativeItems.{OtherWord, tested, other_word, number_and_unit, signed_and_unit, seconds, signed_seconds}
 use Rattle.text_quick.specs.Rows.{Digits}
 use Rattle.text_quick.specs.Shifts.{relative_of, Short, ShiftAt, BehindSign, UnitAt, word_of, way_of, Plural, CountAt}
 use Rattle.relative_readers.specs.Unit.{times}
@@ -99,7 +99,7 @@ no_date_word unit.Second true = other_word _ refl
 no_date_word unit.Second false = other_word _ refl
 
 -- a number with its sign and its direction
-turned_signed : (ago negative : Bool) (n : ℕ) → turned ago (signed negative n) ≡ signed (if ago (not negative) negative) n
+turned_signed : (ago negative : Bool) (n : ℕ) → turned ago (signed negative n) ≡ signed (cond ago (not negative) negative) n
 unfolding signed
 turned_signed false negative n = refl
 turned_signed true false n = refl
@@ -132,17 +132,17 @@ module _ (negative : Bool) (n : ℕ) (h : n ≤ 300000000) (r : ℤ) (e : r ≡ 
   cast_is = rw (wide, to_z-of_z small) e
 
 -- `ago` turns the sign round
-other_way : (negative ago : Bool) → not (beq negative ago) ≡ if ago (not negative) negative
+other_way : (negative ago : Bool) → not (beq negative ago) ≡ cond ago (not negative) negative
 other_way true true = refl
 other_way true false = refl
 other_way false true = refl
 other_way false false = refl
 
-pub cast_turned : (negative ago : Bool) (n : ℕ) → n ≤ 300000000 → (r : ℤ) → r ≡ signed (not (beq negative ago)) n → to_z w32 (of_z w32 (to_z w64 (of_z w64 r))) ≡ signed (if ago (not negative) negative) n
-cast_turned negative ago n h r e = cast_is (if ago (not negative) negative) n h r (rw (← other_way negative ago) e)
+pub cast_turned : (negative ago : Bool) (n : ℕ) → n ≤ 300000000 → (r : ℤ) → r ≡ signed (not (beq negative ago)) n → to_z w32 (of_z w32 (to_z w64 (of_z w64 r))) ≡ signed (cond ago (not negative) negative) n
+cast_turned negative ago n h r e = cast_is (cond ago (not negative) negative) n h r (rw (← other_way negative ago) e)
 
 -- what the code answers for so many units is so many
-days_of : (t : Bool) (v w : Relative) → matched w 0 ≡ if t (matched v 0) none → w ≡ v
+days_of : (t : Bool) (v w : Relative) → matched w 0 ≡ cond t (matched v 0) none → w ≡ v
 days_of true v w e = cc
 days_of false v w e = let z : ◌≡◌ {A = ℕ} 0 1 = cc in absurd (clash z)
 
@@ -164,45 +164,45 @@ abbrev count_text : TimeUnit → Bool → Bool → List ℕ
 count_text u many ago = (32 ∷ []) ++ ((word_of u ++ plural many) ++ way_of ago)
 
 module _ (many ago negative : Bool) {ds : List ℕ} (n : Number ds) (small : decimal ds ≤ 300000000) (bs : List ℕ) (b : all blank bs ≡ true) where
-  long_signed : (u : TimeUnit) {given : ℤ → Type 0} → LongUnit (word_of u ++ plural many) (relative_of u) given → given (signed (if ago (not negative) negative) (decimal ds)) → Reads parse_item (bs ++ (sign_of negative ∷ (ds ++ count_text u many ago))) (item.Relative (relative_of u (signed (if ago (not negative) negative) (decimal ds)))) []
+  long_signed : (u : TimeUnit) {given : ℤ → Type 0} → LongUnit (word_of u ++ plural many) (relative_of u) given → given (signed (cond ago (not negative) negative) (decimal ds)) → Reads parse_item (bs ++ (sign_of negative ∷ (ds ++ count_text u many ago))) (item.Relative (relative_of u (signed (cond ago (not negative) negative) (decimal ds)))) []
   unfolding blank
   long_signed u {given} l g =
       let q = turned_signed ago negative (decimal ds) in
       let g' : given (turned ago (signed negative (decimal ds))) = rw q g in
       rw (← q) (signed_and_unit (no_date_word u many) (way_read ago) (way_no_letter ago) (32 ∷ []) refl bs b l n (omega arith) negative g')
 
-  signed_item : (u : TimeUnit) → Short u → Reads parse_item (bs ++ (sign_of negative ∷ (ds ++ count_text u many ago))) (item.Relative (relative_of u (signed (if ago (not negative) negative) (decimal ds)))) []
+  signed_item : (u : TimeUnit) → Short u → Reads parse_item (bs ++ (sign_of negative ∷ (ds ++ count_text u many ago))) (item.Relative (relative_of u (signed (cond ago (not negative) negative) (decimal ds)))) []
   unfolding blank
   signed_item unit.Year few = long_signed unit.Year (year_word many) tt
   signed_item unit.Month few = long_signed unit.Month (month_word many) tt
   signed_item unit.Fortnight few = absurd few
-  signed_item unit.Week few = long_signed unit.Week (week_word many) (weeks_fit (if ago (not negative) negative) (decimal ds) small)
+  signed_item unit.Week few = long_signed unit.Week (week_word many) (weeks_fit (cond ago (not negative) negative) (decimal ds) small)
   signed_item unit.Day few = long_signed unit.Day (day_word many) tt
   signed_item unit.Hour few = long_signed unit.Hour (hour_word many) tt
   signed_item unit.Minute few = long_signed unit.Minute (minute_word many) tt
   signed_item unit.Second few =
-      said (ap item.Relative (rounded_signed (if ago (not negative) negative) (decimal ds)))
+      said (ap item.Relative (rounded_signed (cond ago (not negative) negative) (decimal ds)))
       (signed_seconds (second_unit many) (no_date_word unit.Second many) (way_read ago) (way_no_letter ago) (32 ∷ []) refl bs b n (omega arith) negative)
 
 module _ (many ago : Bool) {ds : List ℕ} (n : Number ds) (short : length ds < 5) (small : decimal ds ≤ 300000000) (bs : List ℕ) (b : all blank bs ≡ true) where
-  long_plain : (u : TimeUnit) {given : ℤ → Type 0} → LongUnit (word_of u ++ plural many) (relative_of u) given → given (signed (if ago true false) (decimal ds)) → Reads parse_item (bs ++ (ds ++ count_text u many ago)) (item.Relative (relative_of u (signed (if ago true false) (decimal ds)))) []
+  long_plain : (u : TimeUnit) {given : ℤ → Type 0} → LongUnit (word_of u ++ plural many) (relative_of u) given → given (signed (cond ago true false) (decimal ds)) → Reads parse_item (bs ++ (ds ++ count_text u many ago)) (item.Relative (relative_of u (signed (cond ago true false) (decimal ds)))) []
   unfolding blank signed
   long_plain u {given} l g =
       let q = turned_signed ago false (decimal ds) in
       let g' : given (turned ago (pos (decimal ds))) = rw q g in
       rw (← q) (number_and_unit (no_date_word u many) (way_read ago) (way_no_letter ago) (32 ∷ []) refl bs b l n (omega arith) (λ z. short_no_date ds short) g')
 
-  plain_item : (u : TimeUnit) → Short u → Reads parse_item (bs ++ (ds ++ count_text u many ago)) (item.Relative (relative_of u (signed (if ago true false) (decimal ds)))) []
+  plain_item : (u : TimeUnit) → Short u → Reads parse_item (bs ++ (ds ++ count_text u many ago)) (item.Relative (relative_of u (signed (cond ago true false) (decimal ds)))) []
   unfolding blank
   plain_item unit.Year few = long_plain unit.Year (year_word many) tt
   plain_item unit.Month few = long_plain unit.Month (month_word many) tt
   plain_item unit.Fortnight few = absurd few
-  plain_item unit.Week few = long_plain unit.Week (week_word many) (weeks_fit (if ago true false) (decimal ds) small)
+  plain_item unit.Week few = long_plain unit.Week (week_word many) (weeks_fit (cond ago true false) (decimal ds) small)
   plain_item unit.Day few = long_plain unit.Day (day_word many) tt
   plain_item unit.Hour few = long_plain unit.Hour (hour_word many) tt
   plain_item unit.Minute few = long_plain unit.Minute (minute_word many) tt
   plain_item unit.Second few =
-      said (ap item.Relative (rounded_signed (if ago true false) (decimal ds)))
+      said (ap item.Relative (rounded_signed (cond ago true false) (decimal ds)))
       (seconds (second_unit many) (no_date_word unit.Second many) (way_read ago) (way_no_letter ago) (32 ∷ []) refl bs b n (omega arith) (λ z. short_no_date ds short))
 
 -- ---- no time behind a date
@@ -213,8 +213,8 @@ no_time_there a b = record { fails = λ text at e. rw (a.fails text at e, b.fail
 
 signed_no_time : (negative : Bool) (l : List ℕ) → digit (head l) ≡ true → (d : Date) → Fails (parse_time_after_date d) (32 ∷ (sign_of negative ∷ l))
 unfolding blank
-signed_no_time true l h d = no_time_behind d (32 ∷ []) (45 ∷ l) refl (sign-still true h) (sign_no_digit true) refl
-signed_no_time false l h d = no_time_behind d (32 ∷ []) (43 ∷ l) refl (sign-still false h) (sign_no_digit false) refl
+signed_no_time true l h d = no_time_behind d (32 ∷ []) (45 ∷ l) refl (sign_still true h) (sign_no_digit true) refl
+signed_no_time false l h d = no_time_behind d (32 ∷ []) (43 ∷ l) refl (sign_still false h) (sign_no_digit false) refl
 
 plain_no_time : (many ago : Bool) {ds : List ℕ} → Number ds → (u : TimeUnit) (d : Date) → Fails (parse_time_after_date d) (32 ∷ (ds ++ count_text u many ago))
 unfolding parse_time_after_date blank digit letter
@@ -263,7 +263,7 @@ entry_answer es i d every h text at n e =
 
 -- a blank, a unit and its direction; the code answers as `times` does for the number with its sign
 pub counted : (s : List ℕ) (at end n v : ℕ) (u : TimeUnit) (negative ago : Bool) → v ≤ 300000000 → at < length s → get_or s at 0 ≡ 32 → UnitAt (lowered s) (at + 1) (Some (u, end)) → Plural (lowered s) end n → drop n (lowered s) ≡ way_of ago
-    → {k : ℤ} → k ≡ signed (if ago (not negative) negative) v → (r : Option Relative) → ((text : List ℕ) (place : ℕ) → found_at place r ≡ times u k text place) → CountAt (lowered s) at negative v r
+    → {k : ℤ} → k ≡ signed (cond ago (not negative) negative) v → (r : Option Relative) → ((text : List ℕ) (place : ℕ) → found_at place r ≡ times u k text place) → CountAt (lowered s) at negative v r
 unfolding lower
 counted s at end n v u negative ago small h b name p e {k} g (Some w) f =
     record { small = small; unit = u; short = name.0; many = p.many; ago = ago; written = mark s at 32 h b refl ∙ rw (name.1, p.written, e); amount = rw (← g) (amount_of u _ w (f [] 0)) }
@@ -293,7 +293,7 @@ module _ (s : List ℕ) (at v n : ℕ) (h : at < length s) where
       mark s at (sign_of negative) h e (sign_lower negative) ∙ rw (part (lowered s) (at + 1) n d.forward, c.written, append_assoc) in
       let small : decimal (slice (at + 1) n (lowered s)) ≤ 300000000 = rw d.value c.small in
       record {
-        still = rw w (sign-still negative (number_head _ d.number));
+        still = rw w (sign_still negative (number_head _ d.number));
         there = there;
         reads = λ bs b. rw (w, c.amount, ← d.value) (signed_item c.many c.ago negative d.number small bs b c.unit c.short);
         no_time = rw w (signed_no_time negative _ (number_head _ d.number));

@@ -9,15 +9,15 @@ use mathlib.Core.List.{List, [], ◌∷◌, ◌++◌}
 use lib.ListN.{length, get_or}
 use borrow.Author.Tests.{le-leb}
 use Rattle.std.proofs.Math.Nat.{le-max_left, le-max_right}
-use Rattle.extended.specs.Outcome.{Outcome, accepted}
-use Rattle.extended.specs.Refusals.{outcome_of}
-use Rattle.extended.specs.declared.refusals.Refusal.{Refusal}
+use Rattle.answers.specs.Outcome.{Outcome, accepted}
+use Rattle.answers.specs.Refusals.{outcome_of}
+use Rattle.answers.specs.declared.Refusal.{Refusal}
 use Rattle.primitive.proofs.Lowered.{clash}
 use Rattle.std.specs.Prelude.{Some, Result, Ok, Err}
 use Rattle.std.specs.Result.{result_ok, is_ok}
 use Rattle.extended.specs.Extended.{make, test, accept}
 use Rattle.extended.specs.declared.ExtendedDateTime.{ExtendedDateTime}
-use Rattle.extended.proofs.Outcomes.{first_passed, same}
+use Rattle.answers.proofs.Outcomes.{first_passed, same}
 use Rattle.extended.proofs.Records.{facts}
 use Rattle.primitive.specs.Text.{lower, lowered, past}
 use Rattle.primitive.proofs.Rows.{both}
@@ -26,7 +26,7 @@ use Rattle.dates.specs.Date.{exists}
 use Rattle.relative.specs.declared.Relative.{Relative}
 use Rattle.items.specs.Items.{ended, parse_items}
 use Rattle.items.specs.declared.Item.TheVariants as item
-use Rattle.extended.specs.Placed.{fine, placed}
+use Rattle.answers.specs.Placed.{fine, placed}
 use Rattle.builder.specs.Building.{add_relative, build}
 use Rattle.text_general.specs.Reading.{ascii, ascii_end, items_of, build_parsed, build_text, read_text}
 use Rattle.text_general.proofs.Steps.{ascii_low, all_read}

@@ -10,8 +10,8 @@ use Rattle.times.specs.Time.{optional_second, optional_correction}
 use Rattle.items.specs.Combined.{starts_with_meridiem, combined_time}
 use Rattle.items.specs.Items.{parse_item}
 use Rattle.items.specs.declared.Item.TheVariants as item
-use Rattle.theorems_forms.proofs.Walk.{Reads, Fails}
-use Rattle.theorems_forms.proofs.Leaves.{head}
+use Rattle.primitive.proofs.Walk.{Reads, Fails}
+use Rattle.primitive.proofs.Leaves.{head}
 
 abbrev pub zone_small : Option Offset → Type 0
 zone_small (Some o) = (o.hours < 24) × (o.minutes < 60)

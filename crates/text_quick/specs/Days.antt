@@ -9,10 +9,10 @@ use Rattle.dates.specs.declared.date.Date.{Date}
 use Rattle.calendar.specs.declared.Civil.{Civil}
 use Rattle.items.specs.Items.{iso_date, parse_item}
 use Rattle.items.specs.declared.Item.TheVariants as item
-use Rattle.theorems_forms.proofs.Walk.{Reads}
-use Rattle.theorems_forms.proofs.Leaves.{head, Still}
-use Rattle.theorems_forms.proofs.Dates.{Ending}
-use Rattle.theorems_forms.proofs.LiteralDates.{Month}
+use Rattle.primitive.proofs.Walk.{Reads}
+use Rattle.primitive.proofs.Leaves.{head, Still}
+use Rattle.dates.proofs.Forms.{Ending}
+use Rattle.dates.proofs.LiteralForms.{Month}
 use Rattle.text_quick.specs.Rows.{Digits}
 
 abbrev pub day_of : ℕ → ℕ → ℕ → Date

@@ -1,6 +1,6 @@
 -- What is known of a text where a quick reader answers its date and time: which items the definitions read, and what is built of them.
 use Rattle.std.specs.Prelude.{Option, Some, None, ℕ, ◌+◌, ◌≤◌, ◌≡◌, Bool, true, List, [], ◌∷◌, ◌++◌, length, drop, ℤ}
-use Rattle.extended.specs.Outcome.{accepted}
+use Rattle.answers.specs.Outcome.{accepted}
 use Rattle.extended.specs.Extended.{make, time, test}
 use Rattle.calendar.specs.declared.Civil.{Civil}
 use Rattle.extended.specs.declared.ExtendedDateTime.{ExtendedDateTime}
@@ -9,8 +9,8 @@ use Rattle.times.specs.declared.time.Time.{Time}
 use Rattle.items.specs.Items.{ended, parse_items}
 use Rattle.items.specs.declared.Item.{Item}
 use Rattle.items.specs.declared.Item.TheVariants as item
-use Rattle.theorems_forms.proofs.Combined.{separator_of}
-use Rattle.extended.specs.Placed.{fine}
+use Rattle.items.proofs.DateTimes.{separator_of}
+use Rattle.answers.specs.Placed.{fine}
 use Rattle.builder.proofs.DateAndTime.{offset_or}
 use Rattle.text_general.specs.Reading.{build_text}
 use Rattle.text_quick.specs.Days.{day_of}

@@ -1,6 +1,5 @@
 -- What is known of a relative item where a quick reader answers one: the definitions read the same item.
-use Rattle.std.specs.Prelude.{Option, Some, None, ℕ, ◌+◌, ◌<◌, ◌≤◌, ◌≡◌, ◌⊎◌, Bool, true, false, not, List, [], ◌∷◌, ◌++◌, eqb, length, drop, ℤ, pos, ◌*ℤ◌}
-use Rattle.primitive.specs.Answer.{if}
+use Rattle.std.specs.Prelude.{Option, Some, None, ℕ, ◌+◌, ◌<◌, ◌≤◌, ◌≡◌, ◌⊎◌, Bool, true, false, not, List, [], ◌∷◌, ◌++◌, eqb, length, drop, ℤ, pos, ◌*ℤ◌, cond}
 use Rattle.primitive.specs.Text.{bytes, blank}
 use Rattle.primitive.specs.Ordinal.{signed}
 use Rattle.primitive.proofs.Rows.{all}
@@ -10,9 +9,9 @@ use Rattle.relative.specs.declared.Relative.TheVariants as relative
 use Rattle.items.specs.Combined.{parse_time_after_date}
 use Rattle.items.specs.Items.{parse_item}
 use Rattle.items.specs.declared.Item.TheVariants as item
-use Rattle.theorems_forms.proofs.Walk.{Reads, Fails}
-use Rattle.theorems_forms.proofs.Leaves.{Still, sign_of}
-use Rattle.theorems_forms.proofs.Relative.{plural}
+use Rattle.primitive.proofs.Walk.{Reads, Fails}
+use Rattle.primitive.proofs.Leaves.{Still, sign_of}
+use Rattle.relative.proofs.Forms.{plural}
 use Rattle.relative_readers.specs.declared.unit.Unit.{Unit as TimeUnit}
 use Rattle.relative_readers.specs.declared.unit.Unit.TheVariants as unit
 
@@ -93,7 +92,7 @@ pub record Counted (text : List ℕ) (at : ℕ) (negative : Bool) (n : ℕ) (v :
   pub many : Bool
   pub ago : Bool
   pub written : drop at text ≡ 32 ∷ (word_of unit ++ (plural many ++ way_of ago))
-  pub amount : v ≡ relative_of unit (signed (if ago (not negative) negative) n)
+  pub amount : v ≡ relative_of unit (signed (cond ago (not negative) negative) n)
 
 abbrev pub CountAt : List ℕ → ℕ → Bool → ℕ → Option Relative → Type 0
 CountAt text at negative n (Some v) = Counted text at negative n v

@@ -13,13 +13,14 @@ mod shifts;
 ghost use Rattle.std.specs.Prelude.{◌≡◌, true, ◌<◌, ◌≤◌, length};
 ghost use Rattle.primitive.specs.Text.{lowered};
 ghost use Rattle.extended.specs.Extended.{accept};
-ghost use Rattle.extended.specs.Refusals.{outcome_of, placed_of};
+ghost use Rattle.answers.specs.Refusals.{outcome_of, placed_of};
 ghost use Rattle.builder.proofs.DateAndTime.{offset_or};
 ghost use Rattle.text_general.specs.Reading.{ascii_end, read_text};
 ghost use Rattle.text_quick.specs.Days.{OtherDate};
 ghost use Rattle.text_quick.specs.Shapes.{ShapeOf, SeparatorAt, at_midnight, record_of, AtOnce};
 
-use extended::{DateParts, ExtendedDateTime, PlacedRefusal, Refusal, TimeParts};
+use answers::{PlacedRefusal, Refusal};
+use extended::{DateParts, ExtendedDateTime, TimeParts};
 use times::offset::Offset;
 use times::time::Time;
 

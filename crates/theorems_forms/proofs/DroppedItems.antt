@@ -4,10 +4,10 @@ use native.Mathlib.Omega.{arith}
 use Prim.Native.Nat.{ℕ, zero, suc, ◌<◌}
 use mathlib.Core.Path.{◌≡◌, refl}
 use mathlib.Core.List.{List, [], ◌∷◌, ◌++◌}
-use mathlib.Core.Bool.{Bool, true, false}
+use mathlib.Core.Bool.{Bool, true, false, cond}
 use lib.Dec.{ltb}
 use lib.ListN.{length}
-use Rattle.primitive.specs.Answer.{Answer, matched, dropped, none, stop, if}
+use Rattle.primitive.specs.Answer.{Answer, matched, dropped, none, stop}
 use Rattle.primitive.specs.Primitive.{space}
 use Rattle.items.specs.Items.{Parsed, ended, further, kept, parse_item, items_from, parse_items, rust_item}
 use Rattle.items.specs.declared.Item.{Item}
@@ -36,7 +36,7 @@ module _ (text : List ℕ) where
   unfolding items_from rust_item
   there_from zero xs at p h = go (ltb (space text at) (length text)) (parse_item text at) h.0
     where
-      go : (t : Bool) (a : Answer Item) → (if t (further (kept a) xs at (λ v n. ended xs 1 0)) (ended xs 0 0)).number ≡ 22 → Drops text 0 at p
+      go : (t : Bool) (a : Answer Item) → (cond t (further (kept a) xs at (λ v n. ended xs 1 0)) (ended xs 0 0)).number ≡ 22 → Drops text 0 at p
       go true (matched v n) z = absurd (omega arith)
       go true (dropped v n) z = absurd (omega arith)
       go true none z = absurd (omega arith)
@@ -46,7 +46,7 @@ module _ (text : List ℕ) where
     where
       go : (t : Bool) → ltb (space text at) (length text) ≡ t → (a : Answer Item) → parse_item text at ≡ a
           → ((v : Item) (n : ℕ) → Refused (items_from parse_item room (xs ++ (v ∷ [])) text n) p → Drops text room n p)
-          → Refused (if t (further a xs at (λ v n. items_from parse_item room (xs ++ (v ∷ [])) text n)) (ended xs 0 0)) p → Drops text (suc room) at p
+          → Refused (cond t (further a xs at (λ v n. items_from parse_item room (xs ++ (v ∷ [])) text n)) (ended xs 0 0)) p → Drops text (suc room) at p
       go true t (matched v n) e f h =
           let d = f v n h in
           record {

@@ -11,10 +11,10 @@ use lib.ListN.{length}
 use lib.Dec.{ltb, leb}
 use lib.IntN.{pos, negsuc}
 use Rattle.extended.specs.Calendar.{leap, month_days}
-use Rattle.extended.specs.Extended.{last_year}
+use Rattle.answers.specs.Limits.{last_year}
 use Rattle.primitive.specs.Text.{bytes, blank, digit, letter}
 use Rattle.primitive.specs.Primitive.{decimal, same}
-use Rattle.primitive.specs.Epoch.{padded, nanoseconds, nonzero, lost}
+use Rattle.primitive.specs.Epoch.{zero_filled, nanoseconds, nonzero, lost}
 use Rattle.primitive.specs.Ordinal.{signed, ordinals}
 use Rattle.dates.specs.Year.{widened_by, widened}
 use Rattle.dates.specs.Date.{date_of, exists, months}
@@ -24,18 +24,18 @@ use Rattle.relative.specs.declared.Relative.TheVariants.{Years, Days, Seconds}
 use Rattle.items.specs.Items.{parse_item}
 use Rattle.items.specs.declared.Item.{Item}
 use Rattle.items.specs.declared.Item.TheVariants as item
-use Rattle.theorems_forms.proofs.Walk.{Reads, at_once, not_behind_space}
-use Rattle.theorems_forms.proofs.Leaves.{plain, minus, still, blanks, over_sign, byte_else, colon_else, fraction_else, seconds_read, fractional_read}
+use Rattle.primitive.proofs.Walk.{Reads, at_once, not_behind_space}
+use Rattle.primitive.proofs.Leaves.{plain, minus, still, blanks, over_sign, byte_else, colon_else, fraction_else, seconds_read, fractional_read}
 use Rattle.primitive.proofs.Rows.{all, halves, Number}
-use Rattle.theorems_forms.proofs.Tables.{entry, lacks}
-use Rattle.theorems_forms.proofs.Dates.{Year, text_ends, no_slash_part, short_no_date, with_it, without_it, no_digit_year}
-use Rattle.theorems_forms.proofs.LiteralDates.{Month, month_names, hyphen_read, no_hyphen_read, comma_read, no_comma_read}
-use Rattle.theorems_forms.proofs.Combined.{no_meridiem, iso_time, other_time, hour_alone, combined_hyphens, combined_row, no_time_behind}
-use Rattle.theorems_forms.proofs.Times.{iso_read, half_day_item, second_read, no_minutes, no_second, correction_given, no_correction, no_sign_correction, no_colon_offset, digits_correction_read, hours_and_minutes_said, meridiem_else, meridiem_read}
-use Rattle.theorems_forms.proofs.TimeItems.{time_24, time_12}
-use Rattle.theorems_forms.proofs.Relative.{ago_read, no_direction, year_word, week_word, sec_unit}
-use Rattle.theorems_forms.proofs.RelativeItems.{tested, other_word, number_and_unit, ordinal_and_unit, signed_fractional_seconds}
-use Rattle.theorems_forms.proofs.DateItems.{year_month_day, month_day_year, month_day, day_month, name_day}
+use Rattle.primitive.proofs.WordTables.{entry, lacks}
+use Rattle.dates.proofs.Forms.{Year, text_ends, no_slash_part, short_no_date, with_it, without_it, no_digit_year}
+use Rattle.dates.proofs.LiteralForms.{Month, month_names, hyphen_read, no_hyphen_read, comma_read, no_comma_read}
+use Rattle.items.proofs.DateTimes.{no_meridiem, iso_time, other_time, hour_alone, combined_hyphens, combined_row, no_time_behind}
+use Rattle.times.proofs.Forms.{iso_read, half_day_item, second_read, no_minutes, no_second, correction_given, no_correction, no_sign_correction, no_colon_offset, digits_correction_read, hours_and_minutes_said, meridiem_else, meridiem_read}
+use Rattle.items.proofs.TimeItems.{time_24, time_12}
+use Rattle.relative.proofs.Forms.{ago_read, no_direction, year_word, week_word, sec_unit}
+use Rattle.items.proofs.RelativeItems.{tested, other_word, number_and_unit, ordinal_and_unit, signed_fractional_seconds}
+use Rattle.items.proofs.DateItems.{year_month_day, month_day_year, month_day, day_month, name_day}
 
 -- what a text is read as, to its end
 abbrev Whole : List ℕ → Item → Type 0
@@ -118,7 +118,7 @@ abbrev clock : Option Offset → Item
 clock o = item.Time (record { hour = 20; minute = 2; second = 0; nanosecond = 0; offset = o })
 
 whole_time : Whole (bytes "20:02:00.000000") (clock None)
-unfolding bytes digit decimal nanoseconds padded nonzero lost blank
+unfolding bytes digit decimal nanoseconds zero_filled nonzero lost blank
 whole_time =
     time_24 [] refl (row (bytes "20") refl) (row (bytes "02") refl) (omega arith) (omega arith) refl
     (second_read refl (fractional_read false (row (bytes "00") refl) (omega arith) (row (bytes "000000") refl) refl refl) (omega arith)) (no_correction (no_sign_correction (still (plain refl)) refl refl))
@@ -173,7 +173,7 @@ year_ago =
     number_and_unit (other_word (bytes "year") refl) (ago_read (bytes " ") refl) refl (bytes " ") refl [] refl (year_word false) (row (bytes "1") refl) (omega arith) (λ z. short_no_date (bytes "1") (omega arith)) tt
 
 half_second_back : Whole (bytes "-0.5 sec") (item.Relative (Seconds (negsuc 0) 500000000))
-unfolding bytes digit letter decimal nanoseconds padded nonzero lost rounded signed blank tested lacks months same
+unfolding bytes digit letter decimal nanoseconds zero_filled nonzero lost rounded signed blank tested lacks months same
 half_second_back =
     signed_fractional_seconds (sec_unit false) (other_word (bytes "sec") refl) (no_direction (still (plain refl)) refl refl) refl (bytes " ") refl [] refl (row (bytes "0") refl) (omega arith) false (row (bytes "5") refl) refl true
 

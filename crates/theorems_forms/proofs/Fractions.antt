@@ -5,11 +5,11 @@ use borrow.Author.Tests.{eqb-false, ne_eqb}
 use Prim.Native.Nat.{ℕ, zero, suc, ◌+◌, ◌-◌, ◌<◌, ◌≤◌, suc-le-suc}
 use mathlib.Core.Path.{◌≡◌, refl, sym, ◌∙◌}
 use mathlib.Core.List.{List, [], ◌∷◌}
-use mathlib.Core.Bool.{Bool, true, false}
+use mathlib.Core.Bool.{Bool, true, false, cond}
 use lib.Dec.{leb, eqb}
 use lib.ListN.{length, get_or, drop, length-drop}
 use lib.Seq.{get_or-drop}
-use Rattle.primitive.specs.Answer.{Answer, Reader, matched, none, if, carry, or_else, ◌>>◌}
+use Rattle.primitive.specs.Answer.{Answer, Reader, matched, none, carry, or_else, ◌>>◌}
 use Rattle.primitive.specs.Primitive.{space, spaced, decimal, parse_uint, dec_uint_str, dec_uint}
 use Rattle.primitive.specs.Epoch.{nanoseconds, nonzero, lost, fraction, sec_and_nsec}
 use Rattle.primitive.specs.declared.SecAndNsec.{SecAndNsec}
@@ -26,7 +26,7 @@ unfolding nonzero
 nonzero_place [] e = let z : ◌≡◌ {A = ℕ} 0 1 = cc in absurd (clash z)
 nonzero_place (d ∷ ds) e = go (eqb d 48) refl e (nonzero_place ds)
   where
-    go : (t : Bool) → eqb d 48 ≡ t → if t (nonzero ds) true ≡ true → (nonzero ds ≡ true → (i : ℕ) × (i < length ds) × (get_or ds i 0 ≡ 48 → ⊥))
+    go : (t : Bool) → eqb d 48 ≡ t → cond t (nonzero ds) true ≡ true → (nonzero ds ≡ true → (i : ℕ) × (i < length ds) × (get_or ds i 0 ≡ 48 → ⊥))
         → (i : ℕ) × (i < suc (length ds)) × (get_or (d ∷ ds) i 0 ≡ 48 → ⊥)
     go true q e f = let (i, h, k) = f e in (suc i, suc-le-suc h, k)
     go false q e f = (0, omega arith, eqb-false d 48 q)
@@ -37,7 +37,7 @@ place_nonzero [] i h k = absurd (omega arith)
 place_nonzero (d ∷ ds) zero h k = rw (ne_eqb d 48 k)
 place_nonzero (d ∷ ds) (suc i) h k = go (eqb d 48) (place_nonzero ds i (omega arith) k)
   where
-    go : (t : Bool) → nonzero ds ≡ true → if t (nonzero ds) true ≡ true
+    go : (t : Bool) → nonzero ds ≡ true → cond t (nonzero ds) true ≡ true
     go true e = e
     go false e = refl
 

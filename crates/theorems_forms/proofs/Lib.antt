@@ -1,24 +1,6 @@
 -- The laws of the crate `theorems_forms`: how a reader goes along a text, where a match ends, the written forms, and which items lose a digit.
-pub mod Walk
-pub mod Leaves
-pub mod Tables
-pub mod Relative
-pub mod Times
-pub mod Dates
-pub mod LiteralDates
-pub mod Items
-pub mod Combined
-pub mod DateItems
-pub mod TimeItems
-pub mod RelativeItems
-pub mod Lists
-pub mod TwoItems
 pub mod Examples
 pub mod Premises
-pub mod DatesForward
-pub mod RelativeForward
-pub mod TimesForward
-pub mod ItemsForward
 pub mod Undropped
 pub mod WholeReaders
 pub mod Fractions

@@ -10,7 +10,7 @@ use Rattle.extended.specs.Calendar.{leap, month_days}
 use Rattle.primitive.specs.Answer.{matched, dropped, none}
 use Rattle.primitive.specs.Text.{lower, lowered, bytes, blank, digit, letter, run, past, some, starts, tag}
 use Rattle.primitive.specs.Primitive.{multispace0, multispace1, closing, inside, comment, no_digit, sign, ignored_hyphen_or_plus, ignored, skip, space, decimal, parse_uint, dec_uint_str, dec_uint, colon, plus_or_minus, alpha1, same, named}
-use Rattle.primitive.specs.Epoch.{padded, nanoseconds, nonzero, lost, point_or_comma, fraction, sec_and_nsec}
+use Rattle.primitive.specs.Epoch.{zero_filled, nanoseconds, nonzero, lost, point_or_comma, fraction, sec_and_nsec}
 use Rattle.primitive.specs.Ordinal.{signed, signed_number, ordinals, text_ordinal, number_ordinal, ordinal}
 use Rattle.dates.specs.Year.{widened_by, year_from_str, year_str}
 use Rattle.dates.specs.Date.{date_of, exists, with_year, without_year, dated, end_of_text, blank_or_end, ended, ended_year, dated_behind, nothing, hyphen, comma, dotted, iso1, five_digits, iso2, us_date, slash_part, us_rest, us, months, word_dot, literal_month, literal1, literal2, literal3, literal, parse_non_iso}
@@ -57,7 +57,7 @@ examples : Lossy "10:00:05.1234567891" (item.Time (clock_time 10 0 5 123456789))
     × Kept "2024-03-13 10:00:60.1234567891" (both 2024 3 13 (clock_time 10 0 0 0)) 16 "1234567891" 30
     × Without "2024-03-13" (item.Date (date_of (Some 2024) 3 13)) 10
     × Without "1.2.2024" (item.Date (date_of (Some 2024) 2 1)) 8
-unfolding leap month_days lower lowered bytes blank digit letter run past some starts tag multispace0 multispace1 closing inside comment no_digit sign ignored_hyphen_or_plus ignored skip space decimal parse_uint dec_uint_str dec_uint colon plus_or_minus alpha1 same named padded nanoseconds nonzero lost point_or_comma fraction sec_and_nsec signed signed_number ordinals text_ordinal number_ordinal ordinal widened_by year_from_str year_str exists with_year without_year dated end_of_text blank_or_end ended ended_year dated_behind nothing hyphen comma dotted iso1 five_digits iso2 us_date slash_part us_rest us months word_dot literal_month literal1 literal2 literal3 literal parse_non_iso in_range offset_of timezone_offset_colon digits_offset timezone_offset_colonless any_offset signed_fraction time_zone_correction timezone_offset below hour24 hour12 minute second optional_second optional_minute optional_correction hour_offset clock iso meridiem am_pm_time time-parse direction rounded second_words second_word signed_seconds seconds days units stripped in_unit displaced displacement relative-parse separator meridiem_word starts_with_meridiem unless_meridiem iso_alone combined_time parse_time_after_date date_time_item dated_item iso_date iso_item date_item time_item relative_item time_or_relative other_item parse_item fraction_digits clock_fraction seconds_fraction dated_fraction no_fraction fraction_of
+unfolding leap month_days lower lowered bytes blank digit letter run past some starts tag multispace0 multispace1 closing inside comment no_digit sign ignored_hyphen_or_plus ignored skip space decimal parse_uint dec_uint_str dec_uint colon plus_or_minus alpha1 same named zero_filled nanoseconds nonzero lost point_or_comma fraction sec_and_nsec signed signed_number ordinals text_ordinal number_ordinal ordinal widened_by year_from_str year_str exists with_year without_year dated end_of_text blank_or_end ended ended_year dated_behind nothing hyphen comma dotted iso1 five_digits iso2 us_date slash_part us_rest us months word_dot literal_month literal1 literal2 literal3 literal parse_non_iso in_range offset_of timezone_offset_colon digits_offset timezone_offset_colonless any_offset signed_fraction time_zone_correction timezone_offset below hour24 hour12 minute second optional_second optional_minute optional_correction hour_offset clock iso meridiem am_pm_time time-parse direction rounded second_words second_word signed_seconds seconds days units stripped in_unit displaced displacement relative-parse separator meridiem_word starts_with_meridiem unless_meridiem iso_alone combined_time parse_time_after_date date_time_item dated_item iso_date iso_item date_item time_item relative_item time_or_relative other_item parse_item fraction_digits clock_fraction seconds_fraction dated_fraction no_fraction fraction_of
 examples = ((refl, refl), (refl, refl), (refl, refl), (refl, refl), (refl, refl), (refl, refl), (refl, refl), (refl, refl), (refl, refl), (refl, refl))
 
 lost_digit : Loses (bytes "10:00:05.1234567891") 0 (item.Time (clock_time 10 0 5 123456789)) 19

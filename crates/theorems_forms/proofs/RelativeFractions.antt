@@ -3,11 +3,11 @@
 use Prim.Native.Nat.{ℕ}
 use mathlib.Core.Path.{◌≡◌, refl, sym, ◌∙◌}
 use mathlib.Core.List.{List, [], ◌∷◌}
-use mathlib.Core.Bool.{Bool, true, false}
+use mathlib.Core.Bool.{Bool, true, false, cond}
 use lib.Dec.{leb}
 use lib.IntN.{ℤ, pos}
 use lib.ListN.{get_or, drop}
-use Rattle.primitive.specs.Answer.{matched, none, if, carry, and_then, or_else}
+use Rattle.primitive.specs.Answer.{matched, none, carry, and_then, or_else}
 use Rattle.primitive.specs.Text.{blank, digit, letter, tag}
 use Rattle.primitive.proofs.Forward.{next_forward, then_forward, verify_forward}
 use Rattle.primitive.specs.Primitive.{sign, space, decimal, parse_uint, dec_uint_str, dec_uint, plus_or_minus, alpha1}
@@ -18,10 +18,10 @@ use Rattle.primitive.proofs.Fronts.{space_again, tag_first, str_else, word_else}
 use Rattle.relative.specs.Relative.{signed_seconds, seconds, displaced, displacement, parse}
 use Rattle.relative.specs.declared.Relative.{Relative}
 use Rattle.theorems_forms.specs.Fractions.{fraction_digits, seconds_fraction}
-use Rattle.theorems_forms.proofs.Walk.{Fails, at_once, not_behind_space}
-use Rattle.theorems_forms.proofs.Leaves.{head, head_at, quiet, plain, still, digit_no_letter}
-use Rattle.theorems_forms.proofs.Leaves.{word_else as no_word}
-use Rattle.theorems_forms.proofs.RelativeForward.{direction_forward, second_word_forward}
+use Rattle.primitive.proofs.Walk.{Fails, at_once, not_behind_space}
+use Rattle.primitive.proofs.Leaves.{head, head_at, quiet, plain, still, digit_no_letter}
+use Rattle.primitive.proofs.Leaves.{word_else as no_word}
+use Rattle.relative.proofs.Forward.{direction_forward, second_word_forward}
 use Rattle.theorems_forms.proofs.Undropped.{whole_then, whole_next, whole_verify, carried_same, not_none, none_lost, either, from_rest, from_first, of_both}
 use Rattle.theorems_forms.proofs.WholeReaders.{optional_sign_whole, second_word_whole, direction_whole, displacement_whole}
 use Rattle.theorems_forms.proofs.Fractions.{Told, no_digits, fractional_told}
@@ -65,7 +65,7 @@ module _ (text : List ℕ) (at : ℕ) where
 module _ (text : List ℕ) (at : ℕ) where
   -- `displacement` with an ordinal in digits or without one, where no word follows either
   unnamed : (t negative : Bool) (x m : ℕ) → ((n : ℤ) → displaced n text m ≡ none) → displaced (pos 1) text at ≡ none
-      → and_then (or_else (and_then (if t (matched x m) none) (λ n k. matched (signed negative n) k)) (matched (pos 1) at)) (λ n k. displaced n text k) ≡ none
+      → and_then (or_else (and_then (cond t (matched x m) none) (λ n k. matched (signed negative n) k)) (matched (pos 1) at)) (λ n k. displaced n text k) ≡ none
   unnamed true negative x m f g = f (signed negative x)
   unnamed false negative x m f g = g
 

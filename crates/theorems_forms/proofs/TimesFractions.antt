@@ -24,7 +24,7 @@ use Rattle.times.specs.Offset.{signed_fraction, time_zone_correction}
 use Rattle.times.specs.Time.{below, hour24, hour12, minute, second, optional_second, optional_minute, optional_correction, hour_offset, clock, iso, meridiem, am_pm_time, parse}
 use Rattle.times.specs.declared.time.Time.{Time}
 use Rattle.theorems_forms.specs.Fractions.{fraction_digits, clock_fraction}
-use Rattle.theorems_forms.proofs.TimesForward.{optional_correction_forward, meridiem_forward}
+use Rattle.times.proofs.Forward.{optional_correction_forward, meridiem_forward}
 use Rattle.theorems_forms.proofs.Undropped.{matched_undropped, whole_then, whole_pure, whole_verify, whole_certain, carried_same, tested, certain_end, none_lost, either, from_rest, from_first, of_both}
 use Rattle.theorems_forms.proofs.WholeReaders.{colon_whole, below_whole, optional_minute_whole, optional_correction_whole, meridiem_whole, timezone_offset_whole}
 use Rattle.theorems_forms.proofs.Fractions.{Told, no_digits, number_digits, seconds_told, fractional, fractional_told}

@@ -3,8 +3,8 @@ use Prim.Native.Nat.{ℕ}
 use Prim.Native.String.{String}
 use mathlib.Core.Path.{◌≡◌, refl}
 use mathlib.Core.List.{List, [], ◌∷◌}
-use mathlib.Core.Bool.{Bool, true, false}
-use Rattle.primitive.specs.Answer.{Answer, Reader, matched, dropped, none, stop, if, drops, carry, and_then, or_else, ◌>>=◌, ◌>>◌, ◌<|>◌, pure, verify}
+use mathlib.Core.Bool.{Bool, true, false, cond}
+use Rattle.primitive.specs.Answer.{Answer, Reader, matched, dropped, none, stop, drops, carry, and_then, or_else, ◌>>=◌, ◌>>◌, ◌<|>◌, pure, verify}
 use Rattle.primitive.specs.Text.{bytes, some, tag}
 use Rattle.primitive.specs.Primitive.{space, spaced, same, named}
 use Rattle.primitive.proofs.Lowered.{clash}
@@ -31,7 +31,7 @@ module _ {A : Type 0} where
   stop_undropped : Undropped {A = A} stop
   stop_undropped v n e = let z : ◌≡◌ {A = ℕ} 0 1 = cc in clash z
 
-  pub if_undropped : (t : Bool) (a b : Answer A) → Undropped a → Undropped b → Undropped (if t a b)
+  pub if_undropped : (t : Bool) (a b : Answer A) → Undropped a → Undropped b → Undropped (cond t a b)
   if_undropped true a b f g = f
   if_undropped false a b f g = g
 
@@ -78,7 +78,7 @@ module _ {A : Type 0} where
   pub whole_certain : (t : Bool) (v : A) → Whole (certain t v)
   whole_certain t v = record { whole = λ text at. if_undropped t (matched v at) stop (matched_undropped v at) stop_undropped }
 
-  pub whole_if : (t : Bool) {p q : Reader A} → Whole p → Whole q → Whole (if t p q)
+  pub whole_if : (t : Bool) {p q : Reader A} → Whole p → Whole q → Whole (cond t p q)
   whole_if true h k = h
   whole_if false h k = k
 
@@ -122,12 +122,12 @@ module _ {A : Type 0} where
   carried_same false false u v m n e = (refl, cc, cc)
 
   -- a match of `verify`
-  pub tested : (t : Bool) (u v : A) (m n : ℕ) → if t (matched u m) none ≡ matched v n → (t ≡ true) × (u ≡ v) × (m ≡ n)
+  pub tested : (t : Bool) (u v : A) (m n : ℕ) → cond t (matched u m) none ≡ matched v n → (t ≡ true) × (u ≡ v) × (m ≡ n)
   tested true u v m n e = (refl, cc, cc)
   tested false u v m n e = absurd (not_none false v n e)
 
   -- a match of `certain`
-  pub certain_end : (t : Bool) (u v : A) (m n : ℕ) → if t (matched u m) stop ≡ matched v n → m ≡ n
+  pub certain_end : (t : Bool) (u v : A) (m n : ℕ) → cond t (matched u m) stop ≡ matched v n → m ≡ n
   certain_end true u v m n e = cc
   certain_end false u v m n e = absurd (not_stop false v n e)
 

@@ -5,14 +5,14 @@ use lib.ListN.{drop}
 use Prim.Native.String.{String}
 use lib.IntN.{ℤ}
 use mathlib.Core.List.{List, [], ◌∷◌}
-use mathlib.Core.Bool.{Bool, true, false}
-use Rattle.primitive.specs.Answer.{Reader, and_then, ◌>>=◌, if, matched, optional}
+use mathlib.Core.Bool.{Bool, true, false, cond}
+use Rattle.primitive.specs.Answer.{Reader, and_then, ◌>>=◌, matched, optional}
 use Rattle.primitive.specs.Text.{bytes}
 use Rattle.primitive.specs.Primitive.{multispace0, multispace1, closing, inside, comment, no_digit, ignored_hyphen_or_plus, ignored, parse_uint, dec_uint_str, dec_uint, sign, colon, plus_or_minus, alpha1, same, named}
 use Rattle.primitive.specs.Epoch.{point_or_comma}
 use Rattle.primitive.specs.Ordinal.{signed_number, text_ordinal, number_ordinal, ordinal}
 use Rattle.dates.specs.Year.{year_from_str, year_str}
-use Rattle.dates.specs.Date.{with_year, without_year, Written, written, unwritten, dated, end_of_text, blank_or_end, ended, ended_year, dated_behind, nothing, hyphen, comma, dotted, iso1, five_digits, iso2, us_date, slash_part, us_rest, us, word_dot, literal_month, literal1, literal2, literal3, literal, parse_non_iso}
+use Rattle.dates.specs.Date.{with_year, without_year, WrittenYear, written, unwritten, dated, end_of_text, blank_or_end, ended, ended_year, dated_behind, nothing, hyphen, comma, dotted, iso1, five_digits, iso2, us_date, slash_part, us_rest, us, word_dot, literal_month, literal1, literal2, literal3, literal, parse_non_iso}
 use Rattle.relative.specs.Relative.{direction, second_word, days, units, in_unit, displaced, displacement, stripped}
 use Rattle.relative.specs.declared.Relative.{Relative}
 use Rattle.times.specs.Offset.{offset_of, timezone_offset_colon, digits_offset, timezone_offset_colonless, any_offset, time_zone_correction, timezone_offset}
@@ -80,12 +80,12 @@ pub iso_date_whole : Whole iso_date
 unfolding iso_date iso1 iso2 year_str with_year year_from_str dec_uint_str dec_uint parse_uint five_digits
 iso_date_whole = search wholes depth 30
 
-dated_whole : (y : Written) (m d : ℕ) → Whole (dated y m d)
+dated_whole : (y : WrittenYear) (m d : ℕ) → Whole (dated y m d)
 unfolding dated with_year without_year year_from_str
 dated_whole (written w) m d = search wholes depth 30
 dated_whole unwritten m d = search wholes
 
-us_date_whole : (w : List ℕ) (n : ℕ) (y : Written) → Whole (us_date w n y)
+us_date_whole : (w : List ℕ) (n : ℕ) (y : WrittenYear) → Whole (us_date w n y)
 unfolding us_date with_year without_year year_from_str parse_uint
 us_date_whole w n (written v) = search wholes depth 30
 us_date_whole w n unwritten = search wholes depth 30
@@ -152,7 +152,7 @@ table_whole n w [] no_more = record { whole = λ text at. none_undropped }
 table_whole n w (x ∷ es) (one_more h hs) = record { whole = λ text at. go text at (same w (bytes x.0)) ((table_whole n w es hs).whole text at) }
   where
     go : (text : List ℕ) (at : ℕ) (t : Bool) → Undropped ((named es w >>= λ unit. unit n) text at)
-        → Undropped (and_then (if t (matched x.1 at) (named es w text at)) (λ unit m. unit n text m))
+        → Undropped (and_then (cond t (matched x.1 at) (named es w text at)) (λ unit m. unit n text m))
     go text at true g = h.whole text at
     go text at false g = g
 

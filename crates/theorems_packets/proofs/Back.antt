@@ -8,7 +8,7 @@ use lib.Dec.{leb, eqb}
 use lib.IntN.{ℤ, pos, negsuc}
 use borrow.Author.Tests.{lt-ltb, le-ltb, ltb-true, leb-true, eq-eqb}
 use Rattle.integers.specs.Integers.{in_i32, in_i64}
-use Rattle.extended.specs.Outcome.{accepted}
+use Rattle.answers.specs.Outcome.{accepted}
 use Rattle.dates.specs.declared.date.Date.{Date}
 use Rattle.relative.specs.declared.Relative.{Relative}
 use Rattle.relative.specs.declared.Relative.TheVariants as relative
@@ -23,14 +23,14 @@ use Rattle.items.specs.declared.Item.{Item}
 use Rattle.items.specs.declared.Item.TheVariants as item
 use Rattle.items.specs.Items.{day_index}
 use Rattle.primitive.proofs.Rows.{halves}
-use Rattle.packet_fields.specs.Fields.{signed, unsigned, small, year_of, date_of, time_offset_of, time_of, later_day, day_of, weekday_of, later_unit, unit_of, relative_of, later_kind, item_of, in_range, with_date, with_time, of_zone, of_relative, of_pure, counted, fields_of, same_date, same_time, same_rest, same_later, same, fitting, unpacked}
+use Rattle.packet_fields.specs.Fields.{from_twos_complement, twos_complement, small, year_of, date_of, time_offset_of, time_of, later_day, day_of, weekday_of, later_unit, unit_of, relative_of, later_kind, item_of, in_range, with_date, with_time, of_zone, of_relative, of_pure, counted, fields_of, same_date, same_time, same_rest, same_later, same, fitting, unpacked}
 use Rattle.packet_fields.specs.declared.Fields.{Fields}
 use Rattle.theorems_packets.specs.Writing.{amount, amounts}
 
 -- ---- amounts
 
-pub signed_back : (z : ℤ) → in_i64 z ≡ true → signed (unsigned z) ≡ z
-unfolding signed unsigned
+pub signed_back : (z : ℤ) → in_i64 z ≡ true → from_twos_complement (twos_complement z) ≡ z
+unfolding from_twos_complement twos_complement
 signed_back (pos n) h = rw (lt-ltb n 9223372036854775808 (omega (arith, ltb-true n 9223372036854775808 h)))
 signed_back (negsuc n) h =
     let k = ltb-true n 9223372036854775808 h in
@@ -41,7 +41,7 @@ pub wide : (z : ℤ) → in_i32 z ≡ true → in_i64 z ≡ true
 wide (pos n) h = lt-ltb n 9223372036854775808 (omega (arith, leb-true n 2147483647 h))
 wide (negsuc n) h = lt-ltb n 9223372036854775808 (omega (arith, leb-true n 2147483647 (halves (leb n 2147483647) true h).0))
 
-small_back : (z : ℤ) → in_i32 z ≡ true → small (unsigned z) ≡ accepted z
+small_back : (z : ℤ) → in_i32 z ≡ true → small (twos_complement z) ≡ accepted z
 unfolding small
 small_back z h = rw (signed_back z (wide z h), h)
 
@@ -130,7 +130,7 @@ both_item : (v : DateTime) (used : ℕ) → item_of (with_time (with_date 3 v.da
 unfolding item_of with_time with_date
 both_item v used = rw (both_date v, both_time v) refl
 
-weekday_item : (w : Weekday) (used : ℕ) → in_i32 w.offset ≡ true → item_of (counted 4 (day_index w.day) (unsigned w.offset) 0) used ≡ accepted (item.Weekday w)
+weekday_item : (w : Weekday) (used : ℕ) → in_i32 w.offset ≡ true → item_of (counted 4 (day_index w.day) (twos_complement w.offset) 0) used ≡ accepted (item.Weekday w)
 unfolding item_of weekday_of
 weekday_item w used h = rw (small_back w.offset h, day_back w.day) refl
 

@@ -8,12 +8,12 @@ use lib.Dec.{leb, eqb}
 use lib.ListN.{length, length-drop, drop, get_or}
 use lib.Seq.{drop-cons}
 use borrow.Author.Tests.{eqb-true}
-use Rattle.extended.specs.Outcome as outcome
-use Rattle.extended.specs.Outcome.{Outcome, accepted, refused, number, check}
+use Rattle.answers.specs.Outcome as outcome
+use Rattle.answers.specs.Outcome.{Outcome, accepted, refused, number, check}
 use Rattle.primitive.proofs.Rows.{halves}
 use Rattle.items.specs.declared.Item.{Item}
-use Rattle.extended.specs.Placed as placing
-use Rattle.extended.specs.Placed.{Placed, fine, refusal, ◌>>=◌, ◌>>◌}
+use Rattle.answers.specs.Placed as placing
+use Rattle.answers.specs.Placed.{Placed, fine, refusal, ◌>>=◌, ◌>>◌}
 use Rattle.packet_fields.specs.Fields.{little, fields_from, fields_at, item_of, fields_of, in_range, same_date, same_time, same_rest, same_later, same, fitting, unpacked, digits_used}
 use Rattle.packet_fields.specs.declared.Fields.{Fields}
 use Rattle.packet.specs.Packet.{count, header, digits, digits_stand, item_at, items_from, packet_items}

@@ -1,10 +1,10 @@
 -- What holds of the value that a reader gives, whatever the text. Assumes nothing.
 use Prim.Native.Nat.{ℕ}
 use mathlib.Core.Path.{◌≡◌, refl}
-use mathlib.Core.Bool.{Bool, true, false}
+use mathlib.Core.Bool.{Bool, true, false, cond}
 use mathlib.Core.List.{List, [], ◌∷◌}
 use Prim.Native.String.{String}
-use Rattle.primitive.specs.Answer.{Answer, Reader, matched, dropped, none, stop, if, ◌>>=◌, ◌>>◌, ◌<|>◌, pure, optional, verify}
+use Rattle.primitive.specs.Answer.{Answer, Reader, matched, dropped, none, stop, ◌>>=◌, ◌>>◌, ◌<|>◌, pure, optional, verify}
 use Rattle.primitive.specs.Text.{bytes}
 use Rattle.primitive.specs.Primitive.{space, spaced, named, same}
 use Rattle.primitive.proofs.Dropped.{Has, has_then, has_next, has_or}
@@ -60,7 +60,7 @@ module _ {A : Type 0} (P : A → Type 0) where
   certain_gives true v f text at = f refl
   certain_gives false v f text at = tt
 
-  pub if_gives : (t : Bool) (p q : Reader A) → Gives P p → Gives P q → Gives P (if t p q)
+  pub if_gives : (t : Bool) (p q : Reader A) → Gives P p → Gives P q → Gives P (cond t p q)
   unfolding Gives
   if_gives true p q h k = h
   if_gives false p q h k = k
@@ -102,6 +102,6 @@ module _ {A : Type 0} (P : A → Type 0) where
   named_gives w [] no_more text at = tt
   named_gives w (x ∷ es) (one_more f fs) text at = go (same w (bytes x.0)) (named_gives w es fs text at)
     where
-      go : (t : Bool) → Has P (named es w text at) → Has P (if t (matched x.1 at) (named es w text at))
+      go : (t : Bool) → Has P (named es w text at) → Has P (cond t (matched x.1 at) (named es w text at))
       go true g = f
       go false g = g

@@ -8,11 +8,11 @@ use Rattle.extended.specs.Extended.{test}
 use Rattle.extended.specs.declared.ExtendedDateTime.{ExtendedDateTime}
 use Rattle.primitive.specs.Text.{lowered}
 use Rattle.items.specs.Items.{parse_items}
-use Rattle.extended.specs.Placed.{placed, ◌>>◌}
+use Rattle.answers.specs.Placed.{placed, ◌>>◌}
 use Rattle.builder.specs.Building.{build}
 use Rattle.packet.specs.Packet.{read_packet}
 use Rattle.text_general.specs.Reading.{ascii_end, items_of, build_parsed, read_parsed, read_text}
-use Rattle.theorems_round_trip.proofs.Places.{items_end}
+use Rattle.text_general.proofs.Places.{items_end}
 use Rattle.theorems_packets.specs.Writing.{packet}
 use Rattle.theorems_packets.proofs.Theorems.{packet_builds}
 use Rattle.theorems_packets.proofs.Ranges.{text_items}

@@ -1,5 +1,5 @@
 -- Every item of a text is one that a packet holds. Assumes nothing.
-use Rattle.std.specs.Prelude.{Option, Some, None}
+use Rattle.std.specs.Prelude.{Option, Some, None, cond}
 use native.Mathlib.Omega.{arith}
 use Prim.Native.Nat.{ℕ, zero, suc, ◌+◌, ◌-◌, ◌/◌, ◌%◌, ◌^◌, ◌<◌, ◌≤◌}
 use mathlib.Core.Path.{◌≡◌, refl}
@@ -12,16 +12,16 @@ use lib.IntN.{ℤ, pos, negsuc, neg_ℤ, nat_abs, ◌*ℤ◌}
 use lib.Signed.{mag}
 use borrow.Author.Tests.{lt-ltb, ltb-true, le-leb, leb-true}
 use Rattle.integers.specs.Integers.{in_i32, in_i64}
-use Rattle.primitive.specs.Answer.{Answer, Reader, matched, dropped, none, stop, if, optional}
+use Rattle.primitive.specs.Answer.{Answer, Reader, matched, dropped, none, stop, optional}
 use Rattle.primitive.specs.Text.{byte}
 use Rattle.primitive.specs.Primitive.{space, spaced, decimal, parse_uint, dec_uint, dec_uint_str, colon, sign, plus_or_minus, alpha1, named}
 use Rattle.primitive.specs.Epoch.{sec_and_nsec}
-use Rattle.primitive.specs.Ordinal.{signed, ordinals, text_ordinal, signed_number, number_ordinal, ordinal}
+use Rattle.primitive.specs.Ordinal.{from_twos_complement, ordinals, text_ordinal, signed_number, number_ordinal, ordinal}
 use Rattle.primitive.specs.declared.SecAndNsec.{SecAndNsec}
 use Rattle.primitive.proofs.Limits.{Fraction, nsec_below}
 use Rattle.primitive.proofs.Rows.{halves, both}
 use Rattle.dates.specs.Year.{widened, year_from_str, year_str}
-use Rattle.dates.specs.Date.{date_of, exists, with_year, without_year, Written, written, unwritten, dated, ended_year, dated_behind, nothing, hyphen, comma, dotted, iso1, five_digits, iso2, us_date, slash_part, us_rest, us, literal_month, literal1, literal2, literal3, literal, parse_non_iso}
+use Rattle.dates.specs.Date.{date_of, exists, with_year, without_year, WrittenYear, written, unwritten, dated, ended_year, dated_behind, nothing, hyphen, comma, dotted, iso1, five_digits, iso2, us_date, slash_part, us_rest, us, literal_month, literal1, literal2, literal3, literal, parse_non_iso}
 use Rattle.dates.specs.declared.date.Date.{Date}
 use Rattle.relative.specs.Relative.{direction, rounded, second_word, signed_seconds, seconds, days, units, stripped, in_unit, displaced, displacement}
 use Rattle.relative.specs.Relative.{parse as relative-parse}
@@ -38,7 +38,7 @@ use Rattle.items.specs.Items.{date_time_item, dated_item, iso_date, iso_item, da
 use Rattle.items.specs.declared.combined.DateTime.{DateTime}
 use Rattle.items.specs.declared.Item.{Item}
 use Rattle.items.specs.declared.Item.TheVariants as item
-use Rattle.packet_fields.specs.Fields.{unsigned, date_in_range, offset_in_range, time_in_range, in_range, year_field, with_date, with_time, counted, of_relative, fields_of, digits_used}
+use Rattle.packet_fields.specs.Fields.{twos_complement, date_in_range, offset_in_range, time_in_range, in_range, year_field, with_date, with_time, counted, of_relative, fields_of, digits_used}
 use Rattle.theorems_packets.specs.Writing.{amount, amounts}
 use Rattle.theorems_packets.proofs.Bytes.{Held}
 use Rattle.theorems_packets.proofs.Back.{wide, placed}
@@ -57,7 +57,7 @@ without_year_gives : (m d : ℕ) → Gives GoodDate (without_year m d)
 unfolding without_year date_in_range
 without_year_gives m d = verify_gives GoodDate (exists 2000 m d) (date_of None m d) (λ e. e)
 
-dated_gives : (y : Written) (m d : ℕ) → Gives GoodDate (dated y m d)
+dated_gives : (y : WrittenYear) (m d : ℕ) → Gives GoodDate (dated y m d)
 unfolding dated
 dated_gives (written w) m d = with_year_gives w m d
 dated_gives unwritten m d = without_year_gives m d
@@ -88,7 +88,7 @@ iso2_gives =
     (λ w. next GoodDate (five_digits w) _
     (after GoodDate (parse_uint 255 (slice (length w - 4) (length w - 2) w)) _ (λ m. after GoodDate (parse_uint 255 (drop (length w - 2) w)) _ (λ d. with_year_gives (take (length w - 4) w) m d))))
 
-us_date_gives : (w : List ℕ) (n : ℕ) (v : Written) → Gives GoodDate (us_date w n v)
+us_date_gives : (w : List ℕ) (n : ℕ) (v : WrittenYear) → Gives GoodDate (us_date w n v)
 unfolding us_date
 us_date_gives w n (written v) =
     if_gives GoodDate (leb 4 (length w)) _ _ (after GoodDate (parse_uint 255 v) _ (λ d. with_year_gives w n d)) (after GoodDate (parse_uint 255 w) _ (λ m. with_year_gives v m n))
@@ -180,7 +180,7 @@ iso_gives =
     (λ m b. then_gives GoodTime GoodSecond optional_second _ optional_second_gives
     (λ v c. then_gives GoodTime (λ o. offset_in_range o ≡ true) optional_correction _ optional_correction_gives (λ o d. pure_gives GoodTime _ (good_time h m v o a b c d)))))))
 
-twelve : (h : ℕ) (pm : Bool) → ltb (h % 12 + if pm 12 0) 24 ≡ true
+twelve : (h : ℕ) (pm : Bool) → ltb (h % 12 + cond pm 12 0) 24 ≡ true
 twelve h true = lt-ltb (h % 12 + 12) 24 (omega arith)
 twelve h false = lt-ltb (h % 12 + 0) 24 (omega arith)
 
@@ -191,7 +191,7 @@ time_gives =
     (after GoodTime (below 13) _
     (λ h. then_gives GoodTime (Below 60) optional_minute _ optional_minute_gives
     (λ m b. then_gives GoodTime GoodSecond optional_second _ optional_second_gives
-    (λ v c. after GoodTime meridiem _ (λ pm. certain_gives GoodTime (ltb 0 h) _ (λ e. good_time (h % 12 + if pm 12 0) m v None (twelve h pm) b c refl))))))
+    (λ v c. after GoodTime meridiem _ (λ pm. certain_gives GoodTime (ltb 0 h) _ (λ e. good_time (h % 12 + cond pm 12 0) m v None (twelve h pm) b c refl))))))
     iso_gives
 
 -- ---- relative items
@@ -204,16 +204,16 @@ pub record Plain (x : Item) : Type 0 where
 abbrev GoodRelative : Relative → Type 0
 GoodRelative r = Plain (item.Relative r)
 
-unsigned_low : (z : ℤ) → in_i64 z ≡ true → unsigned z < 18446744073709551616
-unfolding unsigned
+unsigned_low : (z : ℤ) → in_i64 z ≡ true → twos_complement z < 18446744073709551616
+unfolding twos_complement
 unsigned_low (pos n) h = omega (arith, ltb-true n 9223372036854775808 h)
 unsigned_low (negsuc n) h = omega arith
 
-counted_held : (u k : ℕ) (z : ℤ) → in_i64 z ≡ true → k < 4294967296 → Held (counted 7 u (unsigned z) k)
+counted_held : (u k : ℕ) (z : ℤ) → in_i64 z ≡ true → k < 4294967296 → Held (counted 7 u (twos_complement z) k)
 counted_held u k z h l = record { year = omega arith; nanosecond = l; length = omega arith; amount = unsigned_low z h }
 
 module _ (z : ℤ) (h : in_i32 z ≡ true) where
-  held : (u : ℕ) → Held (counted 7 u (unsigned z) 0)
+  held : (u : ℕ) → Held (counted 7 u (twos_complement z) 0)
   held u = counted_held u 0 z (wide z h) (omega arith)
 
   years : GoodRelative (relative.Years z)
@@ -248,14 +248,14 @@ small_in : (z : ℤ) → Small z → in_i32 z ≡ true
 small_in (pos n) h = le-leb n 2147483647 (omega arith)
 small_in (negsuc n) h = rw (le-leb n 2147483647 (omega arith)) refl
 
-small_turned : (t : Bool) (z : ℤ) → Small z → Small (if t (neg_ℤ z) z)
+small_turned : (t : Bool) (z : ℤ) → Small z → Small (cond t (neg_ℤ z) z)
 small_turned false z h = h
 small_turned true (pos zero) h = h
 small_turned true (pos (suc n)) h = h
 small_turned true (negsuc n) h = h
 
-small_signed : (t : Bool) (n : ℕ) → leb n 2147483647 ≡ true → Small (signed t n)
-unfolding signed
+small_signed : (t : Bool) (n : ℕ) → leb n 2147483647 ≡ true → Small (from_twos_complement t n)
+unfolding from_twos_complement
 small_signed false n h = omega (arith, leb-true n 2147483647 h)
 small_signed true zero h = omega arith
 small_signed true (suc n) h = omega (arith, leb-true (suc n) 2147483647 h)
@@ -296,8 +296,8 @@ in_unit_gives z w s =
     (one_more (pure_gives GoodRelative _ (some_seconds z 0 (wide z h) (omega arith))) (one_more (pure_gives GoodRelative _ (some_seconds z 0 (wide z h) (omega arith))) no_more)))))))))))
     (λ f g. g)
 
-below_zero_in : (n : ℕ) → n ≤ 9223372036854775808 → in_i64 (signed true n) ≡ true
-unfolding signed
+below_zero_in : (n : ℕ) → n ≤ 9223372036854775808 → in_i64 (from_twos_complement true n) ≡ true
+unfolding from_twos_complement
 below_zero_in zero h = refl
 below_zero_in (suc n) h = lt-ltb n 9223372036854775808 (omega arith)
 
@@ -306,9 +306,9 @@ unfolding rounded
 rounded_good false v e h = some_seconds (pos v.sec) v.nsec e (omega arith)
 rounded_good true v e h = go (eqb v.nsec 0)
   where
-    go : (t : Bool) → GoodRelative (if t (relative.Seconds (signed true v.sec) 0) (relative.Seconds (signed true (v.sec + 1)) (1000000000 - v.nsec)))
-    go true = some_seconds (signed true v.sec) 0 (below_zero_in v.sec (omega (arith, ltb-true v.sec 9223372036854775808 e))) (omega arith)
-    go false = some_seconds (signed true (v.sec + 1)) (1000000000 - v.nsec) (below_zero_in (v.sec + 1) (omega (arith, ltb-true v.sec 9223372036854775808 e))) (omega arith)
+    go : (t : Bool) → GoodRelative (cond t (relative.Seconds (from_twos_complement true v.sec) 0) (relative.Seconds (from_twos_complement true (v.sec + 1)) (1000000000 - v.nsec)))
+    go true = some_seconds (from_twos_complement true v.sec) 0 (below_zero_in v.sec (omega (arith, ltb-true v.sec 9223372036854775808 e))) (omega arith)
+    go false = some_seconds (from_twos_complement true (v.sec + 1)) (1000000000 - v.nsec) (below_zero_in (v.sec + 1) (omega (arith, ltb-true v.sec 9223372036854775808 e))) (omega arith)
 
 relative_gives : Gives GoodRelative relative-parse
 unfolding relative-parse seconds signed_seconds displacement displaced
@@ -316,9 +316,9 @@ relative_gives =
     or_gives GoodRelative _ _
     (after GoodRelative (optional false plus_or_minus) _
     (λ n. then_gives GoodRelative Fraction (spaced sec_and_nsec) _ (spaced_gives Fraction sec_and_nsec nsec_gives)
-    (λ v h. next GoodRelative second_word _ (after GoodRelative direction _ (λ ago. verify_gives GoodRelative (ltb v.sec (2 ^ 63)) _ (λ e. rounded_good (if ago (not n) n) v e h))))))
+    (λ v h. next GoodRelative second_word _ (after GoodRelative direction _ (λ ago. verify_gives GoodRelative (ltb v.sec (2 ^ 63)) _ (λ e. rounded_good (cond ago (not n) n) v e h))))))
     (then_gives GoodRelative Small (optional (pos 1) ordinal) _ (optional_gives Small (pos 1) ordinal (omega arith) ordinal_gives)
-    (λ z h. after GoodRelative (spaced alpha1) _ (λ w. after GoodRelative direction _ (λ ago. in_unit_gives (if ago (neg_ℤ z) z) w (small_turned ago z h)))))
+    (λ z h. after GoodRelative (spaced alpha1) _ (λ w. after GoodRelative direction _ (λ ago. in_unit_gives (cond ago (neg_ℤ z) z) w (small_turned ago z h)))))
 
 -- ---- items
 
@@ -385,7 +385,7 @@ items_plain : (room : ℕ) (xs : List Item) (text : List ℕ) (at : ℕ) → All
 unfolding items_from
 items_plain zero xs text at g = go (ltb (space text at) (length text)) (kept (parse_item text at))
   where
-    go : (t : Bool) (a : Answer Item) → AllPlain (if t (further a xs at (λ v n. ended xs 1 0)) (ended xs 0 0)).items
+    go : (t : Bool) (a : Answer Item) → AllPlain (cond t (further a xs at (λ v n. ended xs 1 0)) (ended xs 0 0)).items
     go true (matched v n) = g
     go true (dropped v n) = g
     go true none = g
@@ -394,7 +394,7 @@ items_plain zero xs text at g = go (ltb (space text at) (length text)) (kept (pa
 items_plain (suc room) xs text at g = go (λ v n h. items_plain room (xs ++ (v ∷ [])) text n (behind_all xs v g h)) (ltb (space text at) (length text)) (parse_item text at) refl
   where
     go : ((v : Item) (n : ℕ) → Plain v → AllPlain (items_from parse_item room (xs ++ (v ∷ [])) text n).items) → (t : Bool) (a : Answer Item) → parse_item text at ≡ a →
-        AllPlain (if t (further a xs at (λ v n. items_from parse_item room (xs ++ (v ∷ [])) text n)) (ended xs 0 0)).items
+        AllPlain (cond t (further a xs at (λ v n. items_from parse_item room (xs ++ (v ∷ [])) text n)) (ended xs 0 0)).items
     go later true (matched v n) e = later v n (of_match Plain parse_item item_gives text at v n e)
     go later true (dropped v n) e = g
     go later true none e = g

@@ -3,7 +3,7 @@ use native.Mathlib.Omega.{arith}
 use Prim.Native.Nat.{ℕ, zero, suc, ◌≤◌}
 use mathlib.Core.Path.{◌≡◌}
 use mathlib.Core.List.{List}
-use Rattle.extended.specs.Placed.{number_of}
+use Rattle.answers.specs.Placed.{number_of}
 use Rattle.extended.specs.declared.ExtendedDateTime.{ExtendedDateTime}
 use Rattle.packet_fields.specs.Fields.{later_day, day_of, small, weekday_of, later_unit, unit_of, relative_of, later_kind, item_of, fitting, unpacked}
 use Rattle.packet_fields.specs.declared.Fields.{Fields}

@@ -8,15 +8,15 @@ use mathlib.Core.List.{List, [], ◌∷◌}
 use lib.Dec.{leb}
 use lib.ListN.{length, drop, length-drop}
 use borrow.Author.Tests.{le-leb, lt-leb, leb-true, eq-eqb}
-use Rattle.extended.specs.Outcome.{accepted}
+use Rattle.answers.specs.Outcome.{accepted}
 use Rattle.extended.specs.Extended.{test}
 use Rattle.extended.specs.declared.ExtendedDateTime.{ExtendedDateTime}
 use Rattle.primitive.specs.Text.{lower, lowered, digit, past}
 use Rattle.primitive.proofs.Rows.{all, halves, run_all}
 use Rattle.items.specs.declared.Item.{Item}
 use Rattle.items.specs.declared.Item.TheVariants as item
-use Rattle.extended.specs.Placed as placing
-use Rattle.extended.specs.Placed.{fine, ◌>>◌}
+use Rattle.answers.specs.Placed as placing
+use Rattle.answers.specs.Placed.{fine, ◌>>◌}
 use Rattle.builder.specs.Building.{build}
 use Rattle.packet_fields.specs.Fields.{little, fields_of, pure_in_range, in_range, digits_used}
 use Rattle.packet_fields.specs.declared.Fields.{Fields}

@@ -12,17 +12,16 @@ use mathlib.Core.List.{List, [], ◌∷◌}
 use lib.Dec.{ltb}
 use lib.IntN.{ℤ, pos}
 use Rattle.integers.specs.Integers.{sum, product, natural_of}
-use Rattle.extended.specs.Outcome.{Outcome, accepted, refused, check, ◌>>=◌, ◌>>◌}
+use Rattle.answers.specs.Outcome.{Outcome, accepted, refused, check, ◌>>=◌, ◌>>◌}
 use Rattle.extended.specs.Calendar.{month_days}
 use Rattle.extended.specs.Extended.{checked, from_zero, make, date, time, date_of, time_of, test, test_year, accept, moment, from_unix_seconds, with_date, with_time, with_offset, carried, add_seconds, add_units, add_days, add_hours, add_minutes, clamp, add_years, add_months, weekday_monday0}
 use Rattle.extended.specs.declared.ExtendedDateTime.{ExtendedDateTime}
-use Rattle.extended.proofs.Outcomes.{apart, same, first_passed}
+use Rattle.answers.proofs.Outcomes.{apart, same, first_passed}
 use Rattle.extended.proofs.Theorems.{from_unix_seconds_exact}
-use Rattle.primitive.specs.Answer.{if}
 use Rattle.relative.specs.declared.Relative.{Relative}
 use Rattle.relative.specs.declared.Relative.TheVariants as relative
-use Rattle.extended.specs.Placed as placed
-use Rattle.extended.specs.Placed.{Placed, fine, refusal}
+use Rattle.answers.specs.Placed as placed
+use Rattle.answers.specs.Placed.{Placed, fine, refusal}
 use Rattle.rules.specs.Rules.{empty, need_midnight, gather, relatives}
 use Rattle.builder.specs.Building.{start, on_date, on_offset, on_time, delta, forwarded, on_weekday, add_relative, add_relatives, with_zone, on_zone, absolute, none, build_extended, built, build}
 use Rattle.rules.specs.declared.Zone.TheVariants as given-zone
@@ -134,7 +133,7 @@ start_good : (b : DateTimeBuilder) (bare : Bool) (base : ExtendedDateTime) → G
 unfolding start
 start_good b bare base = by (need_midnight b bare)
   where
-    by : (t : Bool) → Good (if t (with_time base (time 0 0 0 0)) (accept base))
+    by : (t : Bool) → Good (cond t (with_time base (time 0 0 0 0)) (accept base))
     by true = with_time_good base 0 0 0 0
     by false = accept_good base
 

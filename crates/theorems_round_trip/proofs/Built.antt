@@ -5,14 +5,14 @@ use mathlib.Core.Path.{◌≡◌}
 use mathlib.Core.Bool.{true}
 use mathlib.Core.List.{[], ◌∷◌}
 use lib.IntN.{ℤ}
-use Rattle.extended.specs.Outcome.{accepted}
+use Rattle.answers.specs.Outcome.{accepted}
 use Rattle.extended.specs.Extended.{make, date_of, time_of, test, add_seconds}
 use Rattle.extended.specs.declared.ExtendedDateTime.{ExtendedDateTime}
 use Rattle.times.specs.Offset.{total_seconds}
 use Rattle.relative.specs.declared.Relative.TheVariants.{Seconds}
 use Rattle.items.specs.declared.Item.{Item}
 use Rattle.items.specs.declared.Item.TheVariants as item
-use Rattle.extended.specs.Placed.{fine, placed}
+use Rattle.answers.specs.Placed.{fine, placed}
 use Rattle.builder.specs.Building.{add_relative, build}
 use Rattle.builder.proofs.DateAndTime.{combined_built, combined_moved}
 use Rattle.writer.specs.Writer.{whole_minutes}

@@ -1,7 +1,6 @@
 pub mod Written
 pub mod Built
 pub mod Texts
-pub mod Places
 pub mod Refusals
 pub mod BuildRefusals
 pub mod TextRefusals

@@ -5,14 +5,13 @@ use native.Mathlib.Omega.{arith}
 use Prim.Native.Nat.{ℕ, ◌≤◌}
 use mathlib.Core.Path.{◌≡◌, refl, ap, ◌∙◌}
 use mathlib.Core.List.{List, []}
-use mathlib.Core.Bool.{Bool, true, false}
+use mathlib.Core.Bool.{Bool, true, false, cond}
 use lib.Dec.{leb, eqb}
 use lib.ListN.{length}
-use Rattle.extended.specs.Outcome.{Outcome, accepted, refused, check}
+use Rattle.answers.specs.Outcome.{Outcome, accepted, refused, check}
 use Rattle.extended.specs.Extended.{test}
-use Rattle.extended.specs.Placed.{Placed, fine, refusal, placed, number_of, place_of, ◌>>◌, ◌>>=◌}
+use Rattle.answers.specs.Placed.{Placed, fine, refusal, placed, number_of, place_of, ◌>>◌, ◌>>=◌}
 use Rattle.extended.specs.declared.ExtendedDateTime.{ExtendedDateTime}
-use Rattle.primitive.specs.Answer.{if}
 use Rattle.primitive.specs.Text.{lowered}
 use Rattle.items.specs.Items.{Parsed, parse_items}
 use Rattle.theorems_forms.specs.Fractions.{Drops}
@@ -47,8 +46,8 @@ module _ (base : ExtendedDateTime) where
   unfolding build_parsed items_of
   only_parsed a = go (eqb a.number 0)
     where
-      go : (t : Bool) → number_of (if t (fine a.items) (refusal a.number a.place) >>= (λ xs. build [] xs base)) ≡ 22
-          → Refused a (place_of (if t (fine a.items) (refusal a.number a.place) >>= (λ xs. build [] xs base)))
+      go : (t : Bool) → number_of (cond t (fine a.items) (refusal a.number a.place) >>= (λ xs. build [] xs base)) ≡ 22
+          → Refused a (place_of (cond t (fine a.items) (refusal a.number a.place) >>= (λ xs. build [] xs base)))
       go true e = absurd (omega (arith, build_numbered [] a.items base))
       go false e = (e, refl)
 

@@ -6,13 +6,13 @@ use mathlib.Core.Bool.{Bool, true, false, cond}
 use lib.IntN.{ℤ}
 use borrow.Author.Rules.{rules}
 use Rattle.std.specs.Prelude.{Option, Some, None}
-use Rattle.extended.specs.Outcome.{Outcome, accepted, refused, check, ◌>>=◌, ◌>>◌}
+use Rattle.answers.specs.Outcome.{Outcome, accepted, refused, check, ◌>>=◌, ◌>>◌}
 use Rattle.extended.specs.Extended.{checked, from_zero, test_date, test_time, test_offset, test, test_year, date, accept, from_clock, from_unix_seconds, with_date, with_time, with_offset, carried, add_seconds, add_units, add_days, add_hours, add_minutes, clamp, add_years, add_months}
-use Rattle.extended.specs.Placed as placing
-use Rattle.extended.specs.Placed.{Placed, fine, refusal, placed, number_of}
+use Rattle.answers.specs.Placed as placing
+use Rattle.answers.specs.Placed.{Placed, fine, refusal, placed, number_of}
 use Rattle.extended.specs.declared.TimeParts.{TimeParts}
 use Rattle.extended.specs.declared.ExtendedDateTime.{ExtendedDateTime}
-use Rattle.primitive.specs.Answer.{Answer, matched, dropped, none, stop, if}
+use Rattle.primitive.specs.Answer.{Answer, matched, dropped, none, stop}
 use Rattle.relative.specs.declared.Relative.{Relative}
 use Rattle.relative.specs.declared.Relative.TheVariants as relative
 use Rattle.rules.specs.Rules.{wanted}
@@ -38,7 +38,7 @@ pub check_numbered : (b : Bool) (k : ℕ) → 0 < k → k ≤ 20 → Numbered (c
 check_numbered true k low high = value tt
 check_numbered false k low high = by_number k low high
 
-pub if_numbered : {A : Type 0} (b : Bool) {p q : Outcome A} → Numbered p → Numbered q → Numbered (if b p q)
+pub if_numbered : {A : Type 0} (b : Bool) {p q : Outcome A} → Numbered p → Numbered q → Numbered (cond b p q)
 if_numbered true h g = h
 if_numbered false h g = g
 

@@ -2,15 +2,15 @@
 use native.Mathlib.Omega.{arith}
 use Prim.Native.Nat.{ℕ, zero, suc, ◌≤◌}
 use mathlib.Core.Path.{◌≡◌, refl}
-use mathlib.Core.Bool.{Bool, true, false}
+use mathlib.Core.Bool.{Bool, true, false, cond}
 use mathlib.Core.List.{List, [], ◌∷◌, ◌++◌}
 use lib.Dec.{ltb, eqb}
 use lib.ListN.{length}
-use Rattle.extended.specs.Outcome.{Outcome, accepted, refused}
+use Rattle.answers.specs.Outcome.{Outcome, accepted, refused}
 use Rattle.extended.specs.Extended.{test}
-use Rattle.extended.specs.Placed.{Placed, fine, refusal, number_of, ◌>>=◌}
+use Rattle.answers.specs.Placed.{Placed, fine, refusal, number_of, ◌>>=◌}
 use Rattle.extended.specs.declared.ExtendedDateTime.{ExtendedDateTime}
-use Rattle.primitive.specs.Answer.{Answer, matched, dropped, none, stop, if}
+use Rattle.primitive.specs.Answer.{Answer, matched, dropped, none, stop}
 use Rattle.primitive.specs.Primitive.{space}
 use Rattle.items.specs.Items.{Parsed, ended, further, kept, items_from, parse_item, parse_items}
 use Rattle.items.specs.declared.Item.{Item}
@@ -27,7 +27,7 @@ items_from_or_22 : (room : ℕ) (xs : List Item) (text : List ℕ) (at : ℕ) �
 unfolding items_from
 items_from_or_22 zero xs text at = go (ltb (space text at) (length text)) (kept (parse_item text at))
   where
-    go : (t : Bool) (a : Answer Item) → LowOr22 (if t (further a xs at (λ v n. ended xs 1 0)) (ended xs 0 0)).number
+    go : (t : Bool) (a : Answer Item) → LowOr22 (cond t (further a xs at (λ v n. ended xs 1 0)) (ended xs 0 0)).number
     go true (matched v n) h = omega arith
     go true (dropped v n) h = absurd (h refl)
     go true none h = omega arith
@@ -36,7 +36,7 @@ items_from_or_22 zero xs text at = go (ltb (space text at) (length text)) (kept 
 items_from_or_22 (suc room) xs text at = go (λ v n. items_from_or_22 room (xs ++ (v ∷ [])) text n) (ltb (space text at) (length text)) (parse_item text at)
   where
     go : ((v : Item) (n : ℕ) → LowOr22 (items_from parse_item room (xs ++ (v ∷ [])) text n).number) → (t : Bool) (a : Answer Item) →
-        LowOr22 (if t (further a xs at (λ v n. items_from parse_item room (xs ++ (v ∷ [])) text n)) (ended xs 0 0)).number
+        LowOr22 (cond t (further a xs at (λ v n. items_from parse_item room (xs ++ (v ∷ [])) text n)) (ended xs 0 0)).number
     go f true (matched v n) h = f v n h
     go f true (dropped v n) h = absurd (h refl)
     go f true none h = omega arith
@@ -50,7 +50,7 @@ parsed_or_22 : (p : Parsed) (base : ExtendedDateTime) → LowOr22 p.number → A
 unfolding build_parsed items_of
 parsed_or_22 p base h = go (eqb p.number 0)
   where
-    go : (t : Bool) → Among LowOr22 (if t (fine p.items) (refusal p.number p.place) >>= (λ xs. build [] xs base))
+    go : (t : Bool) → Among LowOr22 (cond t (fine p.items) (refusal p.number p.place) >>= (λ xs. build [] xs base))
     go true = or_22 (build_low [] p.items base)
     go false = record { number = h }
 

@@ -9,7 +9,7 @@ use mathlib.Core.Bool.{Bool, true, false}
 use mathlib.Core.List.{List, [], ◌∷◌, ◌++◌}
 use lib.Dec.{ltb, leb}
 use lib.ListN.{length, length-append}
-use Rattle.extended.specs.Outcome.{accepted}
+use Rattle.answers.specs.Outcome.{accepted}
 use Rattle.extended.specs.Extended.{test, add_seconds}
 use Rattle.extended.specs.declared.ExtendedDateTime.{ExtendedDateTime}
 use Rattle.extended.proofs.Records.{facts}
@@ -19,8 +19,8 @@ use Rattle.primitive.proofs.Rows.{all, halves, run_all}
 use Rattle.relative.specs.declared.Relative.TheVariants.{Seconds}
 use Rattle.items.specs.Items.{ended, parse_items}
 use Rattle.items.specs.declared.Item.TheVariants as item
-use Rattle.theorems_forms.proofs.TwoItems.{shift_text, one_item_text, two_items_text, both_lowered}
-use Rattle.extended.specs.Placed.{fine, placed}
+use Rattle.items.proofs.TwoItems.{shift_text, one_item_text, two_items_text, both_lowered}
+use Rattle.answers.specs.Placed.{fine, placed}
 use Rattle.builder.specs.Building.{build}
 use Rattle.writer.specs.Writer.{digits, whole_minutes, text_of}
 use Rattle.writer.proofs.Digits.{all_join, all_also, digits_value, digits_number, digits_length, width_most}

@@ -10,15 +10,15 @@ use mathlib.Core.List.{List, ◌∷◌, ◌++◌}
 use lib.IntN.{ℤ, pos, ◌+ℤ◌, +ℤ_idr}
 use lib.ListN.{length, take, drop}
 use lib.Seq.{take-append_seam, drop-append_seam}
-use Rattle.extended.specs.Outcome.{Outcome, accepted, refused}
-use Rattle.extended.specs.Extended.{blank, test, moment, add_seconds}
+use Rattle.answers.specs.Outcome.{Outcome, accepted, refused}
+use Rattle.extended.specs.Extended.{blank_record, test, moment, add_seconds}
 use Rattle.extended.specs.declared.ExtendedDateTime.{ExtendedDateTime}
-use Rattle.extended.proofs.Outcomes.{same}
+use Rattle.answers.proofs.Outcomes.{same}
 use Rattle.extended.proofs.Records.{facts}
 use Rattle.extended.proofs.Theorems.{Recorded, from_unix_seconds_exact, seconds_exact, seconds_refused}
 use Rattle.primitive.specs.Ordinal.{signed}
 use Rattle.primitive.specs.Text.{bytes}
-use Rattle.extended.specs.Placed.{placed}
+use Rattle.answers.specs.Placed.{placed}
 use Rattle.writer.specs.Writer.{digits, sign_of, whole_minutes, text_of, written, bytes_of, written_answer, over}
 use Rattle.writer.specs.declared.Written.{Written}
 use Rattle.writer.proofs.Texts.{text_long}
@@ -101,7 +101,7 @@ module _ (r : ExtendedDateTime) (k : Writable r) (out : List ℕ) (room : 41 ≤
     -- a refusal, and then no accepted record has that moment and offset.
     pub data Answered (u : ℤ) (a : Answer) : Type 0 where
       there : a.number ≡ 0 → Recorded u r.nanosecond r.offset_seconds a.«record» → Answered u a
-      nowhere : 0 < a.number → a.«record» ≡ blank → ((s : ExtendedDateTime) → test s ≡ accepted tt → moment s ≡ u → s.offset_seconds ≡ r.offset_seconds → ⊥) → Answered u a
+      nowhere : 0 < a.number → a.«record» ≡ blank_record → ((s : ExtendedDateTime) → test s ≡ accepted tt → moment s ≡ u → s.offset_seconds ≡ r.offset_seconds → ⊥) → Answered u a
 
     -- The text with N seconds behind it, N from 0 to 9223372036854775807, read under any accepted base.
     pub reads_moved : (minus : Bool) (n : ℕ) → n ≤ 9223372036854775807 → (a : Answer) → Read (text_in w left ++ seconds minus n) base a → Answered (moment r +ℤ signed minus n) a

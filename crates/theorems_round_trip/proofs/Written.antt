@@ -8,7 +8,7 @@ use mathlib.Core.Bool.{Bool, true, false, ◌&&◌, ◌||◌}
 use mathlib.Core.List.{[]}
 use lib.Dec.{leb, ltb, eqb}
 use lib.IntN.{ℤ, pos, negsuc, nat_abs}
-use Rattle.extended.specs.Outcome.{accepted}
+use Rattle.answers.specs.Outcome.{accepted}
 use Rattle.extended.specs.Calendar.{month_days}
 use Rattle.extended.specs.Extended.{test}
 use Rattle.extended.specs.declared.ExtendedDateTime.{ExtendedDateTime}
@@ -23,8 +23,8 @@ use Rattle.times.specs.Offset.{in_range, total_seconds}
 use Rattle.times.specs.declared.offset.Offset.{Offset}
 use Rattle.items.specs.declared.combined.DateTime.{DateTime}
 use Rattle.items.specs.declared.Item.TheVariants as item
-use Rattle.theorems_forms.proofs.Leaves.{nine_lose_none}
-use Rattle.theorems_forms.proofs.TwoItems.{Digits, Sound, moment_text, moment_item, long_year, nine_digits}
+use Rattle.primitive.proofs.Leaves.{nine_lose_none}
+use Rattle.items.proofs.TwoItems.{Digits, Sound, moment_text, moment_item, long_year, nine_digits}
 use Rattle.writer.specs.Writer.{fixed, padded, negative, whole_minutes, text_of}
 use Rattle.writer.proofs.Digits.{fixed_length, fixed_value, fixed_number, padded_value, padded_number, year_length}
 use Rattle.writer.proofs.Texts.{offset_high, offset_parts}

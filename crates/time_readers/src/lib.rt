@@ -6,8 +6,8 @@
 
 #![tactic(auto)]
 
-ghost use Rattle.std.specs.Prelude.{◌≡◌, ◌+◌, ◌%◌};
-ghost use Rattle.primitive.specs.Answer.{matched, if, carry, answer_of, stop_answer, lossy_answer, lossy_stop_answer};
+ghost use Rattle.std.specs.Prelude.{◌≡◌, ◌+◌, ◌%◌, cond};
+ghost use Rattle.primitive.specs.Answer.{matched, carry, answer_of, stop_answer, lossy_answer, lossy_stop_answer};
 ghost use Rattle.primitive.specs.Text.{lowered};
 ghost use Rattle.times.specs.Time.{below, second, optional_second, optional_minute, optional_correction, offset_behind, minutes_behind, iso, meridiem, am_pm_time, parse};
 
@@ -115,7 +115,7 @@ fn am_pm_time(s: &[u8], at: usize) -> Result<(Time, usize, bool), Miss>
 
 // The hour of the day: 12 comes before 1, in each half.
 fn hour_of(hour: u8, pm: bool) -> u8
-    ensures { result ≡ hour % 12 + if pm 12 0 }
+    ensures { result ≡ hour % 12 + cond pm 12 0 }
 {
     if pm { hour % 12 + 12 } else { hour % 12 }
 }

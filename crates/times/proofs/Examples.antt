@@ -7,7 +7,7 @@ use lib.IntN.{ℤ, pos, negsuc}
 use Rattle.primitive.specs.Answer.{Answer, Reader, matched, none, stop}
 use Rattle.primitive.specs.Text.{lower, lowered, bytes, blank, digit, letter, run, past, some, starts, tag}
 use Rattle.primitive.specs.Primitive.{multispace0, closing, inside, comment, no_digit, sign, ignored_hyphen_or_plus, ignored, skip, space, decimal, parse_uint, dec_uint_str, dec_uint, colon, plus_or_minus, alpha1, same, named}
-use Rattle.primitive.specs.Epoch.{padded, nanoseconds, nonzero, lost, point_or_comma, fraction, sec_and_nsec}
+use Rattle.primitive.specs.Epoch.{zero_filled, nanoseconds, nonzero, lost, point_or_comma, fraction, sec_and_nsec}
 use Rattle.primitive.specs.Ordinal.{signed, signed_number, ordinals, text_ordinal, number_ordinal, ordinal}
 use Rattle.relative.specs.Relative.{direction, rounded, second_words, second_word, signed_seconds, seconds, days, units, stripped, in_unit, displaced, displacement}
 use Rattle.relative.specs.Relative.{parse as relative}
@@ -49,7 +49,7 @@ corrections : (reads time_zone_correction "+0530" ≡ matched (east 5 30) 5) × 
     × (reads time_zone_correction "+08" ≡ matched (east 8 0) 3) × (reads time_zone_correction "+800" ≡ matched (east 8 0) 4)
     × (reads time_zone_correction " - 8 : 5" ≡ matched (west 8 5) 8) × (reads time_zone_correction "+5:0x" ≡ matched (east 5 0) 4)
     × (reads time_zone_correction "0530" ≡ none)
-unfolding lower lowered bytes blank digit letter run past some starts tag multispace0 closing inside comment no_digit sign ignored_hyphen_or_plus ignored skip space decimal parse_uint dec_uint_str dec_uint colon plus_or_minus padded nanoseconds nonzero lost point_or_comma fraction in_range offset_of timezone_offset_colon digits_offset timezone_offset_colonless any_offset signed_fraction time_zone_correction
+unfolding lower lowered bytes blank digit letter run past some starts tag multispace0 closing inside comment no_digit sign ignored_hyphen_or_plus ignored skip space decimal parse_uint dec_uint_str dec_uint colon plus_or_minus zero_filled nanoseconds nonzero lost point_or_comma fraction in_range offset_of timezone_offset_colon digits_offset timezone_offset_colonless any_offset signed_fraction time_zone_correction
 corrections = (refl, refl, refl, refl, refl, refl, refl, refl, refl)
 
 -- Document 01, items/offset.rs: what is in range, what stops, and zeros that are lost.
@@ -59,7 +59,7 @@ ranges : (reads time_zone_correction "+24:00" ≡ matched (east 24 0) 6) × (rea
     × (reads time_zone_correction "+000000110" ≡ matched (east 1 10) 10) × (reads time_zone_correction "+0000530" ≡ matched (east 5 30) 8)
     × (reads time_zone_correction "+00005" ≡ matched (east 0 5) 6) × (reads time_zone_correction "+10000" ≡ none)
     × (reads time_zone_correction "+256:00" ≡ matched (east 2 56) 4) × (reads time_zone_correction "+5:256" ≡ matched (east 5 0) 2)
-unfolding lower lowered bytes blank digit letter run past some starts tag multispace0 closing inside comment no_digit sign ignored_hyphen_or_plus ignored skip space decimal parse_uint dec_uint_str dec_uint colon plus_or_minus padded nanoseconds nonzero lost point_or_comma fraction in_range offset_of timezone_offset_colon digits_offset timezone_offset_colonless any_offset signed_fraction time_zone_correction
+unfolding lower lowered bytes blank digit letter run past some starts tag multispace0 closing inside comment no_digit sign ignored_hyphen_or_plus ignored skip space decimal parse_uint dec_uint_str dec_uint colon plus_or_minus zero_filled nanoseconds nonzero lost point_or_comma fraction in_range offset_of timezone_offset_colon digits_offset timezone_offset_colonless any_offset signed_fraction time_zone_correction
 ranges = (refl, refl, refl, refl, refl, refl, refl, refl, refl, refl, refl, refl, refl)
 
 -- A relative item goes before an offset, not before a correction; a fraction is no correction. A stop out of range yields too.
@@ -68,7 +68,7 @@ yields : (reads timezone_offset "+2 hours" ≡ none) × (reads time_zone_correct
     × (reads timezone_offset "+1.5 seconds" ≡ none) × (reads time_zone_correction "+1.5 seconds" ≡ none)
     × (reads time_zone_correction "+1,5 seconds" ≡ none) × (reads time_zone_correction "+1. 5" ≡ matched (east 1 0) 2)
     × (reads timezone_offset "hours" ≡ none)
-unfolding lower lowered bytes blank digit letter run past some starts tag multispace0 closing inside comment no_digit sign ignored_hyphen_or_plus ignored skip space decimal parse_uint dec_uint_str dec_uint colon plus_or_minus alpha1 same named padded nanoseconds nonzero lost point_or_comma fraction sec_and_nsec signed signed_number ordinals text_ordinal number_ordinal ordinal direction rounded second_words second_word signed_seconds seconds days units stripped in_unit displaced displacement relative in_range offset_of timezone_offset_colon digits_offset timezone_offset_colonless any_offset signed_fraction time_zone_correction timezone_offset
+unfolding lower lowered bytes blank digit letter run past some starts tag multispace0 closing inside comment no_digit sign ignored_hyphen_or_plus ignored skip space decimal parse_uint dec_uint_str dec_uint colon plus_or_minus alpha1 same named zero_filled nanoseconds nonzero lost point_or_comma fraction sec_and_nsec signed signed_number ordinals text_ordinal number_ordinal ordinal direction rounded second_words second_word signed_seconds seconds days units stripped in_unit displaced displacement relative in_range offset_of timezone_offset_colon digits_offset timezone_offset_colonless any_offset signed_fraction time_zone_correction timezone_offset
 yields = (refl, refl, refl, refl, refl, refl, refl, refl, refl, refl)
 
 -- 29.3: the manual's four examples, all of the same time, and midnight and noon.
@@ -77,7 +77,7 @@ manual : (reads parse "20:02:00.000000" ≡ matched (at_time 20 2 0 0 None) 15) 
     × (reads parse "12am" ≡ matched (at_time 0 0 0 0 None) 4) × (reads parse "12pm" ≡ matched (at_time 12 0 0 0 None) 4)
     × (reads parse "20:02:00.052-05:00" ≡ matched (at_time 20 2 0 52000000 (Some (west 5 0))) 18)
     × (reads parse "23:59:59,999999999+11:00" ≡ matched (at_time 23 59 59 999999999 (Some (east 11 0))) 24)
-unfolding lower lowered bytes blank digit letter run past some starts tag multispace0 closing inside comment no_digit sign ignored_hyphen_or_plus ignored skip space decimal parse_uint dec_uint_str dec_uint colon plus_or_minus alpha1 same named padded nanoseconds nonzero lost point_or_comma fraction sec_and_nsec signed signed_number ordinals text_ordinal number_ordinal ordinal direction rounded second_words second_word signed_seconds seconds days units stripped in_unit displaced displacement relative in_range offset_of timezone_offset_colon digits_offset timezone_offset_colonless any_offset signed_fraction time_zone_correction timezone_offset below hour24 hour12 minute second optional_second optional_minute optional_correction hour_offset clock iso meridiem am_pm_time parse
+unfolding lower lowered bytes blank digit letter run past some starts tag multispace0 closing inside comment no_digit sign ignored_hyphen_or_plus ignored skip space decimal parse_uint dec_uint_str dec_uint colon plus_or_minus alpha1 same named zero_filled nanoseconds nonzero lost point_or_comma fraction sec_and_nsec signed signed_number ordinals text_ordinal number_ordinal ordinal direction rounded second_words second_word signed_seconds seconds days units stripped in_unit displaced displacement relative in_range offset_of timezone_offset_colon digits_offset timezone_offset_colonless any_offset signed_fraction time_zone_correction timezone_offset below hour24 hour12 minute second optional_second optional_minute optional_correction hour_offset clock iso meridiem am_pm_time parse
 manual = (refl, refl, refl, refl, refl, refl, refl, refl)
 
 -- Document 01, items/time.rs: hour 0 with am or pm stops; ":60" is left unread. The spellings of am and pm.
@@ -89,5 +89,5 @@ corners : (reads parse "0am" ≡ stop) × (reads parse "00:30 p.m." ≡ stop) ×
     × (reads parse "10:00:60 +24:01" ≡ matched (at_time 10 0 0 0 None) 5) × (reads parse "10:00 +1.5 seconds" ≡ matched (at_time 10 0 0 0 None) 5)
     × (reads parse "10" ≡ none) × (reads parse "256:00" ≡ none) × (reads parse "3:04:05am" ≡ matched (at_time 3 4 5 0 None) 9)
     × (reads parse "3amx" ≡ matched (at_time 3 0 0 0 None) 3) × (reads parse "" ≡ none)
-unfolding lower lowered bytes blank digit letter run past some starts tag multispace0 closing inside comment no_digit sign ignored_hyphen_or_plus ignored skip space decimal parse_uint dec_uint_str dec_uint colon plus_or_minus alpha1 same named padded nanoseconds nonzero lost point_or_comma fraction sec_and_nsec signed signed_number ordinals text_ordinal number_ordinal ordinal direction rounded second_words second_word signed_seconds seconds days units stripped in_unit displaced displacement relative in_range offset_of timezone_offset_colon digits_offset timezone_offset_colonless any_offset signed_fraction time_zone_correction timezone_offset below hour24 hour12 minute second optional_second optional_minute optional_correction hour_offset clock iso meridiem am_pm_time parse
+unfolding lower lowered bytes blank digit letter run past some starts tag multispace0 closing inside comment no_digit sign ignored_hyphen_or_plus ignored skip space decimal parse_uint dec_uint_str dec_uint colon plus_or_minus alpha1 same named zero_filled nanoseconds nonzero lost point_or_comma fraction sec_and_nsec signed signed_number ordinals text_ordinal number_ordinal ordinal direction rounded second_words second_word signed_seconds seconds days units stripped in_unit displaced displacement relative in_range offset_of timezone_offset_colon digits_offset timezone_offset_colonless any_offset signed_fraction time_zone_correction timezone_offset below hour24 hour12 minute second optional_second optional_minute optional_correction hour_offset clock iso meridiem am_pm_time parse
 corners = (refl, refl, refl, refl, refl, refl, refl, refl, refl, refl, refl, refl, refl, refl, refl, refl, refl, refl, refl, refl)

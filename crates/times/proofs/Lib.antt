@@ -4,3 +4,5 @@ pub mod Offsets
 pub mod Times
 pub mod Hours
 pub mod Examples
+pub mod Forms
+pub mod Forward

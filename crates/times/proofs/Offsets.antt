@@ -4,10 +4,10 @@ use borrow.Author.Tests.{lt-ltb, le-leb, lt-leb, leb-true}
 use Prim.Native.Nat.{ℕ, ◌/◌, ◌%◌, ◌<◌, ◌≤◌}
 use mathlib.Core.Path.{◌≡◌, refl, ◌∙◌}
 use mathlib.Core.List.{List, []}
-use mathlib.Core.Bool.{Bool, true, false, ◌&&◌, ◌||◌}
+use mathlib.Core.Bool.{Bool, true, false, ◌&&◌, ◌||◌, cond}
 use lib.ListN.{length}
 use lib.Dec.{ltb, leb, eqb}
-use Rattle.primitive.specs.Answer.{Answer, matched, stop, if}
+use Rattle.primitive.specs.Answer.{Answer, matched, stop}
 use Rattle.primitive.specs.Text.{lowered}
 use Rattle.primitive.proofs.Limits.{limits}
 use Rattle.primitive.proofs.Lowered.{length_lowered}
@@ -87,7 +87,7 @@ digits_anywhere : (q : Answer Offset) (negative : Bool) (digits n : ℕ) (text :
 unfolding digits_offset offset_of
 digits_anywhere q negative digits n text next e = e ∙ go (leb digits 2)
   where
-    go : (t : Bool) → if t (offset_of negative n 0) (offset_of negative (n / 100) (n % 100)) [] next ≡ if t (offset_of negative n 0) (offset_of negative (n / 100) (n % 100)) text next
+    go : (t : Bool) → cond t (offset_of negative n 0) (offset_of negative (n / 100) (n % 100)) [] next ≡ cond t (offset_of negative n 0) (offset_of negative (n / 100) (n % 100)) text next
     go true = refl
     go false = refl
 

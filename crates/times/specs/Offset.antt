@@ -1,7 +1,7 @@
 -- Offsets from UTC, in the order of items/offset.rs. 29.3: "The time may alternatively be followed by a time zone correction, expressed
 -- as 'SHHMM', where S is '+' or '-', HH is a number of zone hours and MM is a number of zone minutes."
-use Rattle.std.specs.Prelude.{ℕ, ◌+◌, ◌-◌, ◌*◌, ◌/◌, ◌%◌, Bool, ◌&&◌, ◌||◌, not, length, ltb, leb, eqb, ℤ, pos}
-use Rattle.primitive.specs.Answer.{Answer, Reader, matched, dropped, none, stop, if, ◌>>=◌, ◌>>◌, ◌<|>◌}
+use Rattle.std.specs.Prelude.{ℕ, ◌+◌, ◌-◌, ◌*◌, ◌/◌, ◌%◌, Bool, ◌&&◌, ◌||◌, not, length, ltb, leb, eqb, ℤ, pos, cond}
+use Rattle.primitive.specs.Answer.{Answer, Reader, matched, dropped, none, stop, ◌>>=◌, ◌>>◌, ◌<|>◌}
 use Rattle.primitive.specs.Primitive.{spaced, colon, plus_or_minus, dec_uint, dec_uint_str, parse_uint}
 use Rattle.primitive.specs.Epoch.{fraction}
 use Rattle.primitive.specs.Ordinal.{signed}
@@ -11,7 +11,7 @@ use Rattle.times.specs.declared.offset.Normalized.{Normalized}
 
 -- nothing is read, and the value is v where a test passes; where it fails there is a stop
 abbrev pub certain : {A : Type 0} → Bool → A → Reader A
-certain t v text at = if t (matched v at) stop
+certain t v text at = cond t (matched v at) stop
 
 -- an answer that counts only where another reader does not match; a stop of that reader is none
 abbrev pub without : {A B : Type 0} → Answer A → Answer B → Answer B
@@ -37,7 +37,7 @@ moved o = record { offset = record { negative = o.negative; hours = 23; minutes 
 
 -- Document 01, items/offset.rs: `normalize` moves hours above 23 into the clock: +25:00 is +23:00 and two hours earlier. 24:00 isn't moved.
 unfoldable pub normalized : Offset → Normalized
-normalized o = if (ltb o.hours 24 || (eqb o.hours 24 && eqb o.minutes 0)) (record { offset = o; hour_adjustment = pos 0 }) (moved o)
+normalized o = cond (ltb o.hours 24 || (eqb o.hours 24 && eqb o.minutes 0)) (record { offset = o; hour_adjustment = pos 0 }) (moved o)
 
 unfoldable pub total_seconds : Offset → ℤ
 total_seconds o = signed o.negative (o.hours * 3600 + o.minutes * 60)
@@ -59,7 +59,7 @@ timezone_offset_colon = do
 
 -- 29.3: "The zone minutes term, MM, may be omitted, in which case the one- or two-digit correction is interpreted as a number of hours."
 unfoldable pub digits_offset : Bool → ℕ → ℕ → Reader Offset
-digits_offset negative digits n = if (leb digits 2) (offset_of negative n 0) (offset_of negative (n / 100) (n % 100))
+digits_offset negative digits n = cond (leb digits 2) (offset_of negative n 0) (offset_of negative (n / 100) (n % 100))
 
 -- Document 01, items/offset.rs: colonless strings are cut to the last four digits if zeros alone are lost. So more digits are read too,
 -- as long as the number is below 10000; the manual knows at most four.

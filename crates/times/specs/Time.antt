@@ -1,6 +1,6 @@
 -- Times of day, in the order of items/time.rs. 29.3: "A time of day item in date strings specifies the time on a given day."
-use Rattle.std.specs.Prelude.{ℕ, ◌+◌, ◌%◌, Bool, true, false, ltb, Option, Some, None}
-use Rattle.primitive.specs.Answer.{Reader, if, ◌>>=◌, ◌>>◌, ◌<|>◌, pure, value, optional, verify}
+use Rattle.std.specs.Prelude.{ℕ, ◌+◌, ◌%◌, Bool, true, false, ltb, Option, Some, None, cond}
+use Rattle.primitive.specs.Answer.{Reader, ◌>>=◌, ◌>>◌, ◌<|>◌, pure, value, optional, verify}
 use Rattle.primitive.specs.Text.{quoted}
 use Rattle.primitive.specs.Primitive.{spaced, colon, dec_uint}
 use Rattle.primitive.specs.Epoch.{sec_and_nsec}
@@ -87,7 +87,7 @@ am_pm_time = do
   m ← optional_minute
   v ← optional_second
   pm ← meridiem
-  certain (ltb 0 h) (record { hour = h % 12 + if pm 12 0; minute = m; second = v.sec; nanosecond = v.nsec; offset = None })
+  certain (ltb 0 h) (record { hour = h % 12 + cond pm 12 0; minute = m; second = v.sec; nanosecond = v.nsec; offset = None })
 
 unfoldable pub parse : Reader Time
 parse = am_pm_time <|> iso

@@ -5,7 +5,7 @@ use native.Mathlib.Omega.{arith}
 use lib.IntN.{pos, negsuc}
 use Rattle.primitive.specs.Text.{bytes}
 use Rattle.extended.specs.Calendar.{leap, month_days}
-use Rattle.extended.specs.Outcome.{accepted, refused}
+use Rattle.answers.specs.Outcome.{accepted, refused}
 use Rattle.extended.specs.Extended.{make, date, time, test_date, test_time, test_offset, test}
 use Rattle.extended.specs.declared.ExtendedDateTime.{ExtendedDateTime}
 use Rattle.writer.specs.Writer.{fixed, width_up_to, width, digits, padded, text_of, written}

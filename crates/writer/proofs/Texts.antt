@@ -10,9 +10,9 @@ use lib.ListN.{length, length-append}
 use borrow.Author.Tests.{lt-ltb, lt-leb, ltb-true, leb-true}
 use Rattle.extended.specs.declared.ExtendedDateTime.{ExtendedDateTime}
 use Rattle.extended.specs.Extended.{test_offset}
-use Rattle.extended.specs.Outcome.{accepted}
+use Rattle.answers.specs.Outcome.{accepted}
 use Rattle.extended.proofs.Counting.{and_left}
-use Rattle.extended.proofs.Outcomes.{check_true}
+use Rattle.answers.proofs.Outcomes.{check_true}
 use Rattle.extended.proofs.Records.{Accepted}
 use Rattle.primitive.specs.Text.{lower, lowered, digit}
 use Rattle.primitive.proofs.Rows.{all, halves}

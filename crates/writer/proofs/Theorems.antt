@@ -9,7 +9,7 @@ use lib.IntN.{ℤ, pos, negsuc, nat_abs}
 use lib.ListN.{length, take, drop}
 use lib.Seq.{take-append_seam, drop-append_seam, take_at, drop_at}
 use borrow.Author.Tests.{eqb-true}
-use Rattle.extended.specs.Outcome.{accepted}
+use Rattle.answers.specs.Outcome.{accepted}
 use Rattle.extended.specs.Extended.{make, date, time, test}
 use Rattle.extended.specs.declared.ExtendedDateTime.{ExtendedDateTime}
 use Rattle.extended.proofs.Counting.{month_bound}

@@ -7,11 +7,11 @@ use native.Mathlib.Omega.{arith}
 use lib.Dec.{leb}
 use lib.ListN.{length}
 use borrow.Author.Tests.{leb-true}
-use Rattle.extended.specs.Outcome.{Outcome, accepted, refused, check, ◌>>◌}
+use Rattle.answers.specs.Outcome.{Outcome, accepted, refused, check, ◌>>◌}
 use Rattle.extended.specs.Extended.{test}
 use Rattle.extended.specs.declared.ExtendedDateTime.{ExtendedDateTime}
 use Rattle.extended.proofs.Records.{facts}
-use Rattle.extended.proofs.Outcomes.{check_true, first_passed, same}
+use Rattle.answers.proofs.Outcomes.{check_true, first_passed, same}
 use Rattle.writer.specs.Writer.{text_of, whole_minutes, written, written_length, length_answer, written_answer}
 use Rattle.writer.proofs.Texts.{text_long}
 

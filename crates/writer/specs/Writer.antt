@@ -1,6 +1,7 @@
 -- The text of a record, and what writing it answers: document 01, 'Packet and text' and 'The counted calendar'.
+use Rattle.answers.specs.Numbers as refusal
 use Rattle.std.specs.Prelude.{ℕ, zero, suc, ◌+◌, ◌/◌, ◌%◌, max, min, Bool, true, false, cond, List, [], ◌∷◌, ◌++◌, eqb, ltb, leb, ℤ, pos, negsuc, nat_abs, length, drop}
-use Rattle.extended.specs.Outcome.{Outcome, accepted, refused, number, value_or, check, ◌>>◌}
+use Rattle.answers.specs.Outcome.{Outcome, accepted, refused, number, value_or, check, ◌>>◌}
 use Rattle.extended.specs.Extended.{test}
 use Rattle.extended.specs.declared.ExtendedDateTime.{ExtendedDateTime}
 use Rattle.writer.specs.declared.Written.{Written}
@@ -68,8 +69,8 @@ whole_minutes z = eqb (nat_abs z % 60) 0
 unfoldable pub written : ExtendedDateTime → ℕ → Outcome (List ℕ)
 written r room = do
   test r
-  check (whole_minutes r.offset_seconds) 20
-  check (leb (length (text_of r)) room) 19
+  check (whole_minutes r.offset_seconds) refusal.seam
+  check (leb (length (text_of r)) room) refusal.short
   accepted (text_of r)
 
 -- a refusal writes nothing

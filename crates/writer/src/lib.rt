@@ -8,10 +8,11 @@
 mod text;
 
 ghost use Rattle.std.specs.Prelude.{◌≡◌, ◌≤◌, max, length};
-ghost use Rattle.extended.specs.Refusals.{outcome_of};
+ghost use Rattle.answers.specs.Refusals.{outcome_of};
 ghost use Rattle.writer.specs.Writer.{fixed, width, negative, sign_of, text_of, written, bytes_of, written_length, length_answer, over};
 
-use extended::{ExtendedDateTime, Refusal};
+use answers::Refusal;
+use extended::ExtendedDateTime;
 use text::Text;
 
 // What C is answered: the number of the answer, and how many bytes were written.

@@ -2,11 +2,12 @@
 ghost use Rattle.std.specs.Prelude.{◌≡◌, List, [], ◌∷◌, ◌++◌, ◌+◌, ◌<◌, ◌≤◌, ℕ, length, take};
 ghost use Rattle.writer.specs.Writer.{fixed, field};
 
+use answers::LONGEST_TEXT;
 use std::marker::Model;
 
 #[derive(Drop)]
 pub struct Text {
-    bytes: [u8; 41],
+    bytes: [u8; LONGEST_TEXT],
     length: usize,
 }
 
@@ -24,7 +25,7 @@ impl Text {
         ensures { result ≡ [] }
     {
         Text {
-            bytes: [0; 41],
+            bytes: [0; LONGEST_TEXT],
             length: 0,
         }
     }

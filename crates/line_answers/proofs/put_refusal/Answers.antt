@@ -1,5 +1,5 @@
 -- `line_answers::put_refusal` meets its contract: its four steps are one. Assumes nothing.
-use Rattle.extended.specs.Refusals.{code}
+use Rattle.answers.specs.Refusals.{code}
 use Rattle.line_answers.proofs.Putting.{refusal_put}
 use Rattle.line_answers.proofs.put_refusal.Goals as goal
 

@@ -2,7 +2,7 @@
 use borrow.Author.Rules.{rules}
 use Prim.Native.Nat.{◌≤◌}
 use lib.ListN.{length}
-use Rattle.extended.specs.Refusals.{outcome_of}
+use Rattle.answers.specs.Refusals.{outcome_of}
 use Rattle.line_answers.proofs.Part.{text_number, text_put}
 use Rattle.line_answers.proofs.put_text.Goals as goal
 

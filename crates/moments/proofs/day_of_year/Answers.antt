@@ -6,7 +6,7 @@ use borrow.Author.Rules.{rules}
 use Rattle.calendar.proofs.Counting.{months_bound}
 use Rattle.extended.proofs.Records.{facts}
 use Rattle.extended.specs.Extended.{test}
-use Rattle.extended.specs.Outcome.{accepted}
+use Rattle.answers.specs.Outcome.{accepted}
 use Rattle.moments.proofs.day_of_year.Goals as goal
 
 pub days_before_month-requires : goal.days_before_month-requires

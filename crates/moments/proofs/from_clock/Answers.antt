@@ -4,7 +4,7 @@ use native.Mathlib.Omega.{arith}
 use borrow.Author.Rules.{rules}
 use Rattle.extended.proofs.Records.{year_fact}
 use Rattle.extended.specs.Extended.{test_year}
-use Rattle.extended.specs.Outcome.{accepted}
+use Rattle.answers.specs.Outcome.{accepted}
 use Rattle.moments.proofs.from_clock.Goals as goal
 
 pub overflow_cast-date : goal.overflow_cast-date

@@ -5,7 +5,7 @@ use Rattle.packet.proofs.Loop.{left_start, left_over, left_built, left_bad, left
 use Rattle.packet.proofs.build_items.Goals as goal
 
 pub loop-i-init : goal.loop-i-init
-loop-i-init c = (rw c.new-heeded.ensures.relatives (omega arith), omega arith, left_start _ _ _ _ _ _ c.new-heeded.ensures.standing c.new-heeded.ensures.relatives)
+loop-i-init c = (rw c.new-gathered.ensures.relatives (omega arith), omega arith, left_start _ _ _ _ _ _ c.new-gathered.ensures.builder c.new-gathered.ensures.relatives)
 
 pub returns-in_default : goal.returns-in_default
 returns-in_default c = rw c.at.ensures (left_bad _ _ _ _ _ _ _ _ _ c.loop-i.invariant.2 c.loop-i-test.true c.in_default.ensures)
@@ -15,9 +15,9 @@ loop-i-preserved c =
     let v = c.loop-i in
     let d = c.digits_used-used.ensures.0 in
     let w = rw (length_lowered c.args.digits.now) at (digits_within _ _ _ _ _ (rw (length_lowered _) v.invariant.1) c.in-Some.ensures) in (
-      omega (arith, c.heed.ensures.few),
+      omega (arith, c.add_item.ensures.few),
       rw d w,
-      left_next _ _ _ _ _ _ _ _ _ v.invariant.2 c.loop-i-test.true _ c.in-Some.ensures _ c.heed.ensures.standing _ (c.heed.ensures.kept (omega arith)) _ d,
+      left_next _ _ _ _ _ _ _ _ _ v.invariant.2 c.loop-i-test.true _ c.in-Some.ensures _ c.add_item.ensures.builder _ (c.add_item.ensures.kept (omega arith)) _ d,
     )
 
 pub returns-then-is_left : goal.returns-then-is_left

@@ -1,7 +1,7 @@
 -- `seqtullo_read_packet` meets its contract: no place is past the 64 items. Assumes nothing.
 use native.Mathlib.Omega.{arith}
 use Prim.Native.Nat.{◌≤◌}
-use Rattle.extended.specs.Placed.{place_of}
+use Rattle.answers.specs.Placed.{place_of}
 use Rattle.packet.specs.Packet.{read_packet}
 use Rattle.packet.proofs.Places.{place_within}
 use Rattle.seqtullo.proofs.seqtullo_read_packet.Goals as goal

@@ -1,5 +1,5 @@
 -- `seqtullo_read_text` meets its contract: no place is past the text. Assumes nothing.
-use Rattle.theorems_round_trip.proofs.Places.{place_within}
+use Rattle.text_general.proofs.Places.{place_within}
 use Rattle.seqtullo.proofs.seqtullo_read_text.Goals as goal
 
 pub placed_answer-requires : goal.placed_answer-requires

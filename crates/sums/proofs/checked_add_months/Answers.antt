@@ -3,7 +3,7 @@ use mathlib.Core.Path.{◌≡◌}
 use borrow.Author.Rules.{rules}
 use Rattle.extended.proofs.Records.{facts}
 use Rattle.extended.specs.Extended.{test}
-use Rattle.extended.specs.Outcome.{accepted}
+use Rattle.answers.specs.Outcome.{accepted}
 use Rattle.sums.proofs.checked_add_months.Goals as goal
 
 pub months_before-before-requires : goal.months_before-before-requires

@@ -8,7 +8,7 @@ use Rattle.extended.proofs.Adding.{no_days}
 use Rattle.extended.proofs.Records.{year_fact}
 use Rattle.calendar.specs.Calendar.{month_days}
 use Rattle.extended.specs.Extended.{accept, add_days, clamp, date, make, test, test_year, time_of, with_date}
-use Rattle.extended.specs.Outcome.{Outcome, ◌>>=◌, ◌>>◌, accepted, refused}
+use Rattle.answers.specs.Outcome.{Outcome, ◌>>=◌, ◌>>◌, accepted, refused}
 use Rattle.extended.specs.declared.ExtendedDateTime.{ExtendedDateTime}
 use Rattle.sums.proofs.clamped.Goals as goal
 

@@ -5,7 +5,7 @@ use Rattle.text_general.proofs.Loop.{left_start, left_end, left_unread, left_sto
 use Rattle.text_general.proofs.build_text.Goals as goal
 
 pub loop-item-init : goal.loop-item-init
-loop-item-init c = (omega arith, rw c.new-heeded.ensures.relatives (omega arith), left_start _ _ _ _ c.new-heeded.ensures.standing c.new-heeded.ensures.relatives)
+loop-item-init c = (omega arith, rw c.new-gathered.ensures.relatives (omega arith), left_start _ _ _ _ c.new-gathered.ensures.builder c.new-gathered.ensures.relatives)
 
 pub returns-then-count-eq-MOST_ITEMS : goal.returns-then-count-eq-MOST_ITEMS
 returns-then-count-eq-MOST_ITEMS c =
@@ -20,8 +20,8 @@ unfolding lowered
 loop-item-preserved c =
     let v = c.loop-item in (
       omega arith,
-      omega (arith, c.heed.ensures.few),
-      left_next _ _ _ _ _ _ _ v.invariant.2 _ c.space.ensures c.loop-item-test.true _ _ _ c.in-Ok.ensures c.if-count-eq-MOST_ITEMS.false v.invariant.0 c.if-dropped.false _ c.heed.ensures.standing _ (c.heed.ensures.kept (omega arith)),
+      omega (arith, c.add_item.ensures.few),
+      left_next _ _ _ _ _ _ _ v.invariant.2 _ c.space.ensures c.loop-item-test.true _ _ _ c.in-Ok.ensures c.if-count-eq-MOST_ITEMS.false v.invariant.0 c.if-dropped.false _ c.add_item.ensures.builder _ (c.add_item.ensures.kept (omega arith)),
     )
 
 pub returns-in-Err-NoMatch : goal.returns-in-Err-NoMatch

@@ -4,7 +4,7 @@ use mathlib.Core.Path.{◌≡◌}
 use mir.Syntax.{w32}
 use mir.Val.{SFits}
 use mir.Facts.{to_z-of_z}
-use Rattle.extended.specs.Outcome.{accepted}
+use Rattle.answers.specs.Outcome.{accepted}
 use Rattle.extended.specs.Extended.{accept}
 use Rattle.primitive.proofs.Lowered.{length_lowered}
 use Rattle.text_quick.specs.Shapes.{record_of}

@@ -1,0 +1,88 @@
+-- The place of a refusal is never past the text, nor past the 64 items. Assumes nothing.
+use native.Mathlib.Omega.{arith}
+use Prim.Native.Nat.{ℕ, zero, suc, ◌+◌, ◌≤◌}
+use mathlib.Core.Path.{◌≡◌, refl}
+use mathlib.Core.Bool.{Bool, true, false, cond}
+use mathlib.Core.List.{List, [], ◌∷◌, ◌++◌}
+use lib.Dec.{ltb, leb, eqb}
+use lib.ListN.{length, length-append}
+use borrow.Author.Tests.{leb-true}
+use Rattle.answers.specs.Outcome.{check}
+use Rattle.extended.specs.Extended.{test}
+use Rattle.extended.specs.declared.ExtendedDateTime.{ExtendedDateTime}
+use Rattle.primitive.specs.Answer.{Answer, matched, dropped, none, stop}
+use Rattle.primitive.specs.Text.{lowered, past}
+use Rattle.primitive.proofs.Forward.{run_le}
+use Rattle.primitive.specs.Primitive.{space}
+use Rattle.items.specs.Items.{Parsed, ended, further, kept, items_from, parse_item, parse_items}
+use Rattle.items.specs.declared.Item.{Item}
+use Rattle.items.proofs.Forward.{parse_item_forward}
+use Rattle.answers.specs.Placed.{fine, refusal, placed, place_of, ◌>>=◌, ◌>>◌}
+use Rattle.builder.specs.Building.{build}
+use Rattle.builder.proofs.Places.{first_step, at_place, build_place}
+use Rattle.text_general.specs.Reading.{ascii, ascii_end, items_of, build_parsed, read_parsed, read_text}
+
+-- ---- the items
+
+-- the place is in the text, and no more items are there than there was room for
+pub record Ends (text : List ℕ) (most : ℕ) (p : Parsed) : Type 0 where
+  pub within : p.place ≤ length text
+  pub few : length p.items ≤ most
+
+ends : (room : ℕ) (xs : List Item) (text : List ℕ) (at : ℕ) → at ≤ length text → Ends text (length xs + room) (items_from parse_item room xs text at)
+unfolding items_from
+ends zero xs text at h = go (ltb (space text at) (length text)) (kept (parse_item text at))
+  where
+    go : (t : Bool) (a : Answer Item) → Ends text (length xs + 0) (cond t (further a xs at (λ v n. ended xs 1 0)) (ended xs 0 0))
+    go true (matched v n) = record { within = omega arith; few = omega arith }
+    go true (dropped v n) = record { within = h; few = omega arith }
+    go true none = record { within = h; few = omega arith }
+    go true stop = record { within = h; few = omega arith }
+    go false a = record { within = omega arith; few = omega arith }
+ends (suc room) xs text at h = go (λ ys n. ends room ys text n) (ltb (space text at) (length text)) (parse_item text at) refl
+  where
+    go : ((ys : List Item) (n : ℕ) → n ≤ length text → Ends text (length ys + room) (items_from parse_item room ys text n)) → (t : Bool) (a : Answer Item) → parse_item text at ≡ a →
+        Ends text (length xs + suc room) (cond t (further a xs at (λ v n. items_from parse_item room (xs ++ (v ∷ [])) text n)) (ended xs 0 0))
+    go f true (matched v n) e =
+        let w = f (xs ++ (v ∷ [])) n ((parse_item_forward text at v n e).1 h) in
+        let l = length-append xs (v ∷ []) in
+        record { within = w.within; few = omega (arith, w.few, l) }
+    go f true (dropped v n) e = record { within = h; few = omega arith }
+    go f true none e = record { within = h; few = omega arith }
+    go f true stop e = record { within = h; few = omega arith }
+    go f false a e = record { within = omega arith; few = omega arith }
+
+pub items_end : (text : List ℕ) → Ends text 64 (parse_items text)
+unfolding parse_items
+items_end text = ends 64 [] text 0 (omega arith)
+
+-- ---- the whole
+
+ascii_low : (l : List ℕ) → ascii_end l ≤ length l
+unfolding ascii_end past
+ascii_low l = omega (arith, run_le ascii l)
+
+text_place : (text : List ℕ) (base : ExtendedDateTime) → length text ≤ 4096 → place_of (build_parsed (parse_items text) base) ≤ 4096
+unfolding build_parsed items_of
+text_place text base h = go (parse_items text) (items_end text)
+  where
+    go : (p : Parsed) → Ends text 64 p → place_of (cond (eqb p.number 0) (fine p.items) (refusal p.number p.place) >>= (λ xs. build [] xs base)) ≤ 4096
+    go p e = by (eqb p.number 0)
+      where
+        by : (t : Bool) → place_of (cond t (fine p.items) (refusal p.number p.place) >>= (λ xs. build [] xs base)) ≤ 4096
+        by true = omega (arith, e.few, build_place [] p.items base)
+        by false = omega (arith, e.within)
+
+read_place : (text : List ℕ) (base : ExtendedDateTime) → place_of (read_parsed (parse_items text) text base) ≤ 4096
+unfolding read_parsed
+read_place text base = first_step (placed 0 (test base)) _ 4096 (omega (arith, at_place 0 (test base))) (by (leb (length text) 4096) refl)
+  where
+    by : (t : Bool) → leb (length text) 4096 ≡ t → place_of (placed 0 (check t 1) >> (placed (ascii_end text) (check (leb (length text) (ascii_end text)) 2) >> build_parsed (parse_items text) base)) ≤ 4096
+    by true e =
+        let h = leb-true (length text) 4096 e in
+        first_step (placed (ascii_end text) (check (leb (length text) (ascii_end text)) 2)) _ 4096 (omega (arith, at_place (ascii_end text) (check (leb (length text) (ascii_end text)) 2), ascii_low text)) (text_place text base h)
+    by false e = omega arith
+
+pub place_within : (text : List ℕ) (base : ExtendedDateTime) → place_of (read_text text base) ≤ 4096
+unfolding read_text
+place_within text base = read_place (lowered text) base
