@@ -1,4 +1,4 @@
-// The building of a record from the base and what the items give, as `build_extended` in items/builder.rs.
+// The building of a record from the base and what the items give, as `build_extended` in items/builder.rs. What the items give is in `gather`.
 
 #![tactic(auto)]
 

@@ -1,5 +1,5 @@
 -- Laws of the counted calendar: closed forms and bounds of the days before a year and before a month. Assumes nothing.
-use Prim.Native.Nat.{ℕ, zero, suc, ◌+◌, ◌-◌, ◌*◌, ◌/◌, ◌%◌, ◌<◌, ◌≤◌}
+use Prim.Native.Nat.{ℕ, zero, suc, ◌+◌, ◌-◌, ◌*◌, ◌/◌, ◌%◌, ◌<◌, ◌≤◌, max, min}
 use mathlib.Core.Path.{◌≡◌, refl, sym, ap, ◌∙◌}
 use mathlib.Core.Bool.{Bool, true, false, not, ◌&&◌, ◌||◌, cond}
 use mathlib.Core.List.{◌∷◌}
@@ -263,6 +263,25 @@ pub months_none : (y : ℕ) → days_of_months y 0 ≡ 0
 unfolding days_of_months
 months_none y = refl
 
+-- the months after the twelfth have no days
+months_after : (y k : ℕ) → days_of_months y (12 + k) ≡ days_of_months y 12
+unfolding days_of_months
+months_after y zero = refl
+months_after y (suc k) =
+    let e : days_of_months y (12 + suc k) ≡ days_of_months y (12 + k) + month_days y (suc (12 + k)) = ap (days_of_months y) (add-suc 12 k) in
+    omega (arith, months_after y k, month_beyond y (suc (12 + k)) (omega arith))
+
+-- as many days are before month 0 as before month 1, and before a month above 13 as before month 13
+pub months_clamped : (y m k : ℕ) → k ≡ min (max m 1) 13 → days_of_months y (k - 1) ≡ days_of_months y (m - 1)
+months_clamped y m k h = by (ltb 13 m) refl
+  where
+    by : (b : Bool) → ltb 13 m ≡ b → days_of_months y (k - 1) ≡ days_of_months y (m - 1)
+    by true p =
+        let e : k - 1 ≡ 12 = omega (arith, ltb-true) in
+        let f : 12 + (m - 13) ≡ m - 1 = omega (arith, ltb-true) in
+        ap (days_of_months y) e ∙ sym (months_after y (m - 13)) ∙ ap (days_of_months y) f
+    by false p = let e : k - 1 ≡ m - 1 = omega (arith, ltb-false) in ap (days_of_months y) e
+
 -- the days before a month, by whether the year is a leap year
 months_if : Bool → ℕ → ℕ
 months_if b zero = 0
@@ -287,7 +306,7 @@ shortened b m = bool_byte (ltb 2 m) * (2 - bool_byte b)
 on_line : Bool → ℕ → Bool
 on_line b k = eqb (months_if b k + shortened b (k + 1)) (line (k + 1))
 
-pub months_line : (b : Bool) (y m : ℕ) → b ≡ leap y → 1 ≤ m → m ≤ 12 → days_of_months y (m - 1) + shortened b m ≡ line m
+pub months_line : (b : Bool) (y m : ℕ) → b ≡ leap y → 1 ≤ m → m ≤ 13 → days_of_months y (m - 1) + shortened b m ≡ line m
 unfolding on_line months_if
 months_line b y m l h k =
     let e : m - 1 + 1 ≡ m = omega arith in
@@ -295,9 +314,9 @@ months_line b y m l h k =
     let q : on_line b (m - 1) ≡ true = by b (m - 1) (omega arith) in
     ap (λ (n : ℕ). n + shortened b m) t ∙ (rw e at (eqb-true (months_if b (m - 1) + shortened b (m - 1 + 1)) (line (m - 1 + 1)) q))
   where
-    by : (b : Bool) (k : ℕ) → k < 12 → on_line b k ≡ true
-    by true k h = each 12 (on_line true) refl k h
-    by false k h = each 12 (on_line false) refl k h
+    by : (b : Bool) (k : ℕ) → k < 13 → on_line b k ≡ true
+    by true k h = each 13 (on_line true) refl k h
+    by false k h = each 13 (on_line false) refl k h
 
 -- the date of a day of the year, found on that line
 abbrev pub evened : Bool → ℕ → ℕ
@@ -374,13 +393,13 @@ from_march m = (979 * m - 2919) / 32
 late : Bool → ℕ → Bool
 late b k = eqb (from_march (k + 3) + cond b 366 365) (months_if b (k + 2) + 306)
 
-late_month : (y k : ℕ) → k < 10 → from_march (k + 3) + year_days y ≡ days_of_months y (k + 2) + 306
+late_month : (y k : ℕ) → k < 11 → from_march (k + 3) + year_days y ≡ days_of_months y (k + 2) + 306
 unfolding late months_if year_days
 late_month y k h = rw (months_if_lem y (k + 2)) (by (leap y))
   where
     by : (b : Bool) → from_march (k + 3) + cond b 366 365 ≡ months_if b (k + 2) + 306
-    by true = eqb-true _ _ (each 10 (late true) refl k h)
-    by false = eqb-true _ _ (each 10 (late false) refl k h)
+    by true = eqb-true _ _ (each 11 (late true) refl k h)
+    by false = eqb-true _ _ (each 11 (late false) refl k h)
 
 early : Bool → ℕ → Bool
 early b k = eqb (from_march (k + 13)) (months_if b k + 306)
@@ -414,7 +433,7 @@ add_up : (a b n o w d : ℕ) → 1 ≤ d → a ≡ n + w + 145731 → b + w ≡ 
 add_up a b n o w d h e f = omega arith
 
 -- by whether the month stands before March
-pub march_date : (y m d : ℕ) → 1 ≤ m → m ≤ 12 → 1 ≤ d → (t : Bool) → ltb m 3 ≡ t →
+pub march_date : (y m d : ℕ) → 1 ≤ m → m ≤ 13 → 1 ≤ d → (t : Bool) → ltb m 3 ≡ t →
     march_days (march_year t y) + from_march (march_month t m) + d ≡ day_number y m d + 146038
 unfolding day_number
 march_date y m d h k l true p =
@@ -433,6 +452,11 @@ march_date y m d h k l false p =
     (ap (λ (x : ℕ). from_march x + year_days y) i ∙ late_month y (m - 3) (omega arith) ∙ ap (λ (x : ℕ). days_of_months y x + 306) j)
 
 -- ---- day numbers
+-- month 0 counts as month 1, a month above 13 as month 13, and day 0 as day 1
+pub number_clamped : (y m d k e : ℕ) → k ≡ min (max m 1) 13 → e ≡ max d 1 → day_number y k e ≡ day_number y m d
+unfolding day_number
+number_clamped y m d k e h g = omega (arith, months_clamped y m k h)
+
 pub day_bound : (y m d : ℕ) → day_number y m d ≤ 366 * y + 31 * (m - 1) + (d - 1)
 unfolding day_number
 day_bound y m d = omega (arith, years_bound y, months_bound y (m - 1))

@@ -1,10 +1,10 @@
-// The counted calendar: years, months and days, for any year.
+// The counted calendar, for any year: leap years, the lengths of months, the day number of a date and the date of a day number.
 //
-// Numbers are widened by `as` in sums and products, where `from` in each term is no plainer; that one fits where `as` narrows it is proved.
+// Numbers are widened by `as` in sums and products, where `from` in each term is no plainer. That each cast that narrows fits is proved.
 #![tactic(auto)]
 
 ghost use Rattle.std.specs.Prelude.{◌≡◌, ◌+◌, ◌-◌, ◌<◌, ◌≤◌};
-ghost use Rattle.calendar.specs.Calendar.{leap, month_days, days_before_year, year_days, days_of_months, Valid, ymd, civil};
+ghost use Rattle.calendar.specs.Calendar.{leap, month_days, days_before_year, year_days, days_of_months, day_number, Valid, ymd, civil};
 
 pub fn is_leap_year(year: u32) -> bool
     ensures { result ≡ leap year }
@@ -27,6 +27,16 @@ pub fn days_in_month(year: u32, month: u8) -> u8
     MONTH_DAYS[i] + ((month == 2) & is_leap_year(year)) as u8
 }
 
+// The days of the months of `year` before `month`: those of months on a line, less what February is shorter than on it. Month 0
+// counts as month 1, a month above 13 as month 13.
+pub fn days_before_month(year: u32, month: u8) -> u32
+    ensures { result ≡ days_of_months year (month - 1) }
+{
+    let month = month.max(1).min(13) as u32;
+    let short = (month > 2) as u32 * (2 - is_leap_year(year) as u32);
+    (367 * month - 362) / 12 - short
+}
+
 // The days of all years before `year`. Of the years that 100 divides, 400 divides one in four.
 fn days_before_year(year: u64) -> u64
     requires { year < 1099511627776 }
@@ -42,6 +52,21 @@ pub struct Civil<Y> {
     pub year: Y,
     pub month: u8,
     pub day: u8,
+}
+
+// The day number of a date. The years here begin in March, 400 of them before year 0: the leap day is then the last day of
+// its year, and no year has to be tested for it. January and February are months 13 and 14 of the year before; a month's
+// first day lies on a line. Month 0 counts as month 1, a month above 13 as month 13, and day 0 as day 1.
+pub fn days_from_civil(year: u32, month: u8, day: u8) -> u64
+    ensures { result ≡ day_number year month day }
+{
+    let month = month.max(1).min(13) as u64;
+    let early = (month < 3) as u64;
+    let march_year = year as u64 + 400 - early;
+    let march_month = month + 12 * early;
+    let centuries = march_year / 100;
+    let days = 1461 * march_year / 4 - (centuries - centuries / 4);
+    days + (979 * march_month - 2919) / 32 + day.max(1) as u64 - 146038
 }
 
 // The date of a day number: the block of 400 years that holds it, the year in the block, the month in the year.

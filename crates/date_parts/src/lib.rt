@@ -1,5 +1,5 @@
-// What the forms of calendar dates are made of, as in items/date.rs: a month and a day that exist, and a year that may be left out. A date
-// that no month has is no match.
+// What the forms of calendar dates are made of, as in items/date.rs: a month and a day that exist, and a year that may be left out (year.rs).
+// A date that no month has is no match. The forms are in `date_readers`, the definitions and laws in `dates`.
 
 #![tactic(auto)]
 

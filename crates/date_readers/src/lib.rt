@@ -1,5 +1,5 @@
-// The written forms of calendar dates, as in items/date.rs. Section 29.2 of the manual: `2022-11-14`, `11/14/2022`; beside them
-// `20221114` and `14.11.2022`. Those with a month's name are in `named_month_dates`.
+// The readers of calendar dates, a form each, as in items/date.rs. Section 29.2 of the manual: `2022-11-14`, `11/14/2022`; beside them
+// `20221114` and `14.11.2022`. Those with a month's name are in `named_month_dates`, the definitions and laws in `dates`.
 
 #![tactic(auto)]
 

@@ -138,7 +138,7 @@ months =
     ∷ ("october", 10) ∷ ("oct", 10) ∷ ("oct.", 10) ∷ ("november", 11) ∷ ("nov", 11) ∷ ("nov.", 11) ∷ ("december", 12) ∷ ("dec", 12)
     ∷ ("dec.", 12) ∷ []
 
--- a word, and a dot that stands behind it
+-- a word, and a dot that follows it; `.` is 46
 unfoldable pub word_dot : Reader (List ℕ)
 word_dot = do
   w ← alpha1

@@ -1,5 +1,6 @@
-// Seconds with a fraction, as in items/epoch.rs: whole seconds, then a point or comma with one digit or more behind it. The first
-// nine digits count, as nanoseconds, and each reader says whether one of the others is not zero. A point without a digit is left unread.
+// Seconds with a fraction, as in items/epoch.rs: whole seconds, then a point or comma and one digit or more. The first nine digits count, as
+// nanoseconds, and each reader says whether one of the others is not zero. A point without a digit is left unread. The definitions and laws are
+// in `primitive`.
 
 #![tactic(auto)]
 

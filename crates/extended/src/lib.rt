@@ -1,8 +1,8 @@
-// A date and time whose year may be as large as 2147485547, after the Rust's extended.rs.
+// A date and time whose year may be as large as 2147485547, after the Rust's extended.rs: the record, and the tests that it has to pass. Moments
+// are in `moments`, sums in `sums`; the definitions and laws of all three are here.
 //
-// A record is accepted where `new` refuses none of its numbers. Every function takes any record and
-// any numbers: a record that `new` refuses gets `new`'s refusal, and the refusals (9 to 18 here) are given
-// in the order of the tests.
+// A record is accepted if `new` refuses none of its numbers. Every function takes any record and any numbers: a record that `new` refuses gets
+// `new`'s refusal. The refusals (9 to 18 here) come in the order of the tests.
 #![tactic(auto)]
 
 ghost use Rattle.std.specs.Prelude.{◌≡◌};

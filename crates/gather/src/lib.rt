@@ -1,5 +1,5 @@
 // Items gathered one after the other, as in items/builder.rs: each is set under the rules, and the first broken rule stays. A pure number,
-// which comes by packet only, is the year of a date that has none, or else a time.
+// which comes by packet only, is the year of a date that has none, or else a time. The definitions and laws are in `rules`.
 
 #![tactic(auto)]
 

@@ -1,4 +1,5 @@
-// The reader of an item of a text, as in items/mod.rs: a date with a time, a date, a time or a relative item.
+// The reader of an item of a text, as in items/mod.rs: a date with a time (combined.rs), a date, a time or a relative item. The definitions and
+// laws are in `items`.
 
 #![tactic(auto)]
 

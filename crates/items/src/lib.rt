@@ -1,4 +1,5 @@
-// What the items of a text are, as in items/mod.rs, and a date with a time. The kinds of items that come by packet only stand here too.
+// What the items of a text are, as in items/mod.rs and combined.rs, and the kinds of items that come by packet only. The definitions and laws of
+// the reader of an item are here, the theorems on each form among them; the reader is in `item_readers`.
 
 #![tactic(auto)]
 

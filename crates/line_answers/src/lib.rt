@@ -1,5 +1,5 @@
-// The answer to one line of the line program, put into a lent place: number 0 and the text of a record, or the number and the place of a
-// refusal.
+// The answer to one line of the line program, put into lent bytes: number 0 and the text of a record, or the number and the place of a
+// refusal. The lines of a chunk are in `line_chunks`.
 
 #![tactic(auto)]
 

@@ -1,4 +1,4 @@
-// The answers of the line program, on slices: what is printed for the whole lines of a chunk of input.
+// The answers of the line program to the whole lines of a chunk of input, on slices. What they are for a whole input is in specs/ and proofs/.
 
 #![tactic(auto)]
 
@@ -49,6 +49,7 @@ pub fn put_answers(chunk: &[u8], base: ExtendedDateTime, out: &mut [u8]) -> Prog
 }
 
 // The base of line 1.
+#[tactic(auto, unfolding(crate::specs::Lines::epoch))]
 pub fn epoch() -> ExtendedDateTime
     ensures { result ≡ epoch }
 {

@@ -1,4 +1,5 @@
-// Where lines end, and what is kept of a line that has not ended.
+// Where lines end, and what is kept of a line that has not ended. The line program's four crates are this one, `line_answers`, `line_chunks` and
+// `lines`; they are apart for the gate's time.
 
 #![tactic(auto)]
 

@@ -1,11 +1,11 @@
 // Records and moments, after the Rust's extended.rs: the seconds from 1970 to a record, the record of a moment, a record some seconds later,
-// and the days of the week and of the year.
+// and the days of the week and of the year. The definitions and laws are in `extended`; sums of larger units are in `sums`.
 //
-// Numbers are widened by `as` in sums and products, where `from` in each term is no plainer; that one fits where `as` narrows it is proved.
+// Numbers are widened by `as` in sums and products, where `from` in each term is no plainer. That each cast that narrows fits is proved.
 #![tactic(auto)]
 
-ghost use Rattle.std.specs.Prelude.{◌≡◌, ◌-◌, ◌<◌, ◌≤◌, pos, ◌-ℤ◌};
-ghost use Rattle.calendar.specs.Calendar.{days_of_months, day_number};
+ghost use Rattle.std.specs.Prelude.{◌≡◌, ◌<◌, pos, ◌-ℤ◌};
+ghost use Rattle.calendar.specs.Calendar.{day_number};
 ghost use Rattle.extended.specs.Calendar.{weekday};
 ghost use Rattle.answers.specs.Outcome.{accepted};
 ghost use Rattle.answers.specs.Refusals.{outcome_of};
@@ -67,7 +67,7 @@ pub fn day_of_year(dt: ExtendedDateTime) -> Result<u32, Refusal>
     ensures { outcome_of result ≡ day_of_year dt }
 {
     dt.test()?;
-    Ok(days_before_month(dt.year, dt.month) + dt.day as u32)
+    Ok(calendar::days_before_month(dt.year, dt.month) + dt.day as u32)
 }
 
 // 0 for Sunday to 6 for Saturday.
@@ -109,12 +109,11 @@ fn moment(dt: ExtendedDateTime) -> i64
     since_epoch(clock, dt.offset_seconds)
 }
 
-// The day number of an accepted record's date.
+// The day number of a record's date.
 fn days(dt: ExtendedDateTime) -> u64
-    requires { test dt ≡ accepted tt }
     ensures { result ≡ day_number dt.year dt.month dt.day }
 {
-    days_from_civil(dt.year, dt.month, dt.day)
+    calendar::days_from_civil(dt.year, dt.month, dt.day)
 }
 
 // The record whose own clock is `clock` seconds past 0000-01-01 00:00:00.
@@ -156,28 +155,4 @@ fn since_epoch(clock: u64, offset_seconds: i32) -> i64
     ensures { result ≡ pos clock -ℤ offset_seconds -ℤ pos 62167219200 }
 {
     clock as i64 - offset_seconds as i64 - 62167219200
-}
-
-// The day number of a date. The years here begin in March, 400 of them before year 0: the leap day is then the last day of
-// its year, and no year has to be tested for it. January and February are months 13 and 14 of the year before; a month's
-// first day lies on a line.
-fn days_from_civil(year: u32, month: u8, day: u8) -> u64
-    requires { (1 ≤ month) × (month ≤ 12) × (1 ≤ day) × (year ≤ 2147485547) }
-    ensures { result ≡ day_number year month day }
-{
-    let early = (month < 3) as u32;
-    let march_year = year + 400 - early;
-    let march_month = month as u32 + 12 * early;
-    let centuries = march_year / 100;
-    let days = 1461 * (march_year as u64) / 4 - (centuries - centuries / 4) as u64;
-    days + ((979 * march_month - 2919) / 32 + day as u32) as u64 - 146038
-}
-
-// The days of the months of `year` before `month`: those of months on a line, less what February is shorter than on it.
-fn days_before_month(year: u32, month: u8) -> u32
-    requires { (1 ≤ month) × (month ≤ 12) }
-    ensures { result ≡ days_of_months year (month - 1) }
-{
-    let short = (month > 2) as u32 * (2 - extended::is_leap_year(year) as u32);
-    (367 * (month as u32) - 362) / 12 - short
 }

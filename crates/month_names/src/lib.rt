@@ -1,4 +1,4 @@
-// The names of the months, as in items/date.rs: `november`, `nov` and `nov.`, and `sept` too.
+// The names of the months, as in items/date.rs: `november`, `nov` and `nov.`, and `sept` too. The definitions and laws are in `dates`.
 
 #![tactic(auto)]
 

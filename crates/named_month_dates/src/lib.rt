@@ -1,4 +1,5 @@
-// Calendar dates with a month's name, as in items/date.rs. Section 29.2 of the manual: `14 November 2022`, `14nov2022`, `Nov 14, 2022`.
+// Calendar dates with a month's name, as in items/date.rs. Section 29.2 of the manual: `14 November 2022`, `14nov2022`, `Nov 14, 2022`. A crate
+// apart from `date_readers` for the gate's time alone. The definitions and laws are in `dates`.
 
 #![tactic(auto)]
 

@@ -1,4 +1,4 @@
-// Numbers in digits, as in items/primitive.rs. One that is too large for its type is no match.
+// Numbers in digits, as in items/primitive.rs. One that is too large for its type is no match. The definitions and laws are in `primitive`.
 
 #![tactic(auto)]
 

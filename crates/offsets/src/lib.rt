@@ -1,4 +1,5 @@
-// The readers of offsets from UTC, as in items/offset.rs: a sign with hours and minutes. Zone names are not read.
+// The readers of offsets from UTC, as in items/offset.rs: a sign with hours and minutes. Zone names are not read. The definitions and laws are
+// in `times`.
 //
 // - An offset out of range stops the reading: more than 24 hours, more than 60 minutes, or minutes beside 24 hours. So +24:00 and
 //   +23:60 are read, and +24:01 is not.

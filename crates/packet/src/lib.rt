@@ -3,7 +3,7 @@
 // - Header: the number of items, the place of the items (8), the number of digits and the place of the digits, 2 bytes each.
 // - Items of 28 bytes, as `packet_fields::Fields` has them, and the digits of the pure numbers, to the packet's end.
 //
-// The items are walked where they lie: nothing is copied but the item at hand.
+// The items are read where they are: nothing is copied but the item at hand.
 
 #![tactic(auto)]
 

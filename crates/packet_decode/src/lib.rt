@@ -1,6 +1,6 @@
-// The item that the fields of a packet are.
+// The item of the fields of a packet. The definitions and laws are in `packet_fields`.
 //
-// What is read of the fields is written again and compared, so that every field and every flag that the item's kind does not use has to be 0.
+// The item is written again and compared with the fields, so every field and every flag that the item's kind does not use has to be 0.
 
 #![tactic(auto)]
 

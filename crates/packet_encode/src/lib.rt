@@ -1,4 +1,4 @@
-// The fields of an item, as a packet has them, and whether two rows of fields are the same.
+// The fields of an item, as a packet has them, and whether two rows of fields are the same. The definitions and laws are in `packet_fields`.
 
 #![tactic(auto)]
 

@@ -1,5 +1,5 @@
-// The 28 bytes of a packet's item, read into fields. The items that fields are, and the fields of an item, stand on this crate; their
-// definitions and laws are here.
+// The 28 bytes of a packet's item, read into fields. `packet_decode` makes the item of the fields, `packet_encode` the fields of an item; the
+// definitions and laws of all three are here. Three crates for the gate's time alone.
 
 #![tactic(auto)]
 

@@ -5,7 +5,7 @@ use Rattle.primitive.specs.Text.{char}
 use Rattle.primitive.specs.Primitive.{decimal, dec_uint, dec_uint_str}
 use Rattle.primitive.specs.declared.SecAndNsec.{SecAndNsec}
 
--- the first k digits, with zeros behind them where there are fewer
+-- the first k digits, with zeros after them if there are fewer; `0` is 48
 unfoldable pub zero_filled : ℕ → List ℕ → List ℕ
 zero_filled zero ds = []
 zero_filled (suc k) [] = 48 ∷ zero_filled k []

@@ -85,7 +85,7 @@ spaced p text at = p text (space text at)
 
 -- ---- numbers
 
--- the decimal value of a row of digits
+-- the decimal value of a row of digits; `0` is 48
 unfoldable pub decimal : List ℕ → ℕ
 decimal [] = 0
 decimal (b ∷ bs) = (b - 48) * 10 ^ length bs + decimal bs

@@ -1,8 +1,9 @@
-// The ground of the readers of items, as in items/primitive.rs: what they answer, single bytes, runs of bytes, and fixed bytes. A reader
-// takes a text and a place in it, any place, and answers what it found and the next place, if it found anything. It sees the text in lower
-// case, and lowers each byte as it reads it. Text and place go apart: a reader asks many places of one text, as the definitions do.
+// The ground of the text readers, as in items/primitive.rs: what a reader returns, single bytes, runs of bytes, and fixed bytes. A reader takes a
+// text and a place in it, any place, and returns what it found and the next place, if it found anything. It sees the text in lower case, and
+// lowers each byte as it reads it. Text and place are two arguments, since a reader looks at many places of one text, as the definitions do.
 //
-// The definitions and laws of `spaces`, `numbers` and `words`, which stand on this crate, are here too.
+// The definitions and laws of `spaces`, `numbers`, `epoch` and `words` are here too. These are crates of their own for the gate's time: an edit of
+// must-fail/ costs one check of its crate.
 
 #![tactic(auto)]
 

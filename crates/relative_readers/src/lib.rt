@@ -1,7 +1,7 @@
-// Relative items, as in items/relative.rs: seconds, or else a unit of time with a number or an ordinal word in front of it or none, and `ago`
-// or `hence` behind it or neither.
+// The readers of relative items, as in items/relative.rs: seconds (seconds.rs), or else a unit of time (unit.rs) after a number, an ordinal word
+// or nothing, and then `ago`, `hence` or neither. The definitions and laws are in `relative`.
 //
-// - Weeks and fortnights are days. A number of days that no i32 holds is no match.
+// - Weeks and fortnights are days. A number of days that no i32 can represent is no match.
 // - The words `tomorrow`, `yesterday`, `today` and `now` are not read.
 
 #![tactic(auto)]

@@ -1,5 +1,5 @@
-// Which items may stand together, as in items/builder.rs. The builder holds at most one item of each kind but the relative one, and goes by
-// value; the relative items are kept by the loop over the items.
+// Which items may stand together, as in items/builder.rs. `DateTimeBuilder` contains at most one item of each kind but the relative one, and
+// goes by value. The loop over the items is in `gather`, which keeps the relative ones; building is in `builder`.
 
 #![tactic(auto)]
 

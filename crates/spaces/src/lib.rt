@@ -1,5 +1,5 @@
-// Space, and what is read behind it, as in items/primitive.rs. Space between tokens is blanks, comments and signs that no digit follows;
-// `space` answers where it ends.
+// Space, and what is read after it, as in items/primitive.rs. Space between tokens is blanks, comments and signs that no digit follows; `space`
+// returns where it ends. The definitions and laws are in `primitive`.
 
 #![tactic(auto)]
 
@@ -17,13 +17,13 @@ pub fn space(s: &[u8], at: usize) -> usize
         return at;
     }
     let b = s[at];
-    if 45 < b {
+    if b'-' < b {
         return at;
     }
     if b == b' ' {
         let next = at + 1;
         if next < s.len() {
-            if 45 < s[next] {
+            if b'-' < s[next] {
                 return next;
             }
         }
@@ -54,7 +54,7 @@ fn signed_digit(s: &[u8], at: usize) -> bool
     false
 }
 
-// The end of the space and comments at a place. No byte above 45, the hyphen, begins any. Inlined, it would have `space` save registers on its
+// The end of the space and comments at a place. No byte above the hyphen begins any. Inlined, it would have `space` save registers on its
 // quick ways too: 10 instructions a call.
 #[inline(never)]
 #[tactic(auto, using(primitive::proofs::Spaces::spaces))]
@@ -64,7 +64,7 @@ fn skip_space(s: &[u8], at: usize) -> usize
     let mut i = primitive::multispace0(s, at);
     // each step ends where another reader does, so there is no index to count
     while i < s.len() {
-        if 45 < s[i] {
+        if b'-' < s[i] {
             return i;
         }
         let Some(next) = ignored(s, i) else {
@@ -140,7 +140,7 @@ pub fn spaced_hyphen(s: &[u8], at: usize) -> Option<usize>
             }
         }
     }
-    primitive::byte(s, skip_space(s, at), 45)
+    primitive::byte(s, skip_space(s, at), b'-')
 }
 
 #[tactic(auto, unfolding(primitive::specs::Primitive::colon))]

@@ -1,7 +1,7 @@
 // The sums of a record and units of time, after the Rust's extended.rs: days, hours and minutes are so many seconds; years and months keep
-// the day, or go on from the last day that the month has.
+// the day, or go on from the last day that the month has. The definitions and laws are in `extended`.
 //
-// Numbers are widened by `as` in sums and products, where `from` in each term is no plainer; that one fits where `as` narrows it is proved.
+// Numbers are widened by `as` in sums and products, where `from` in each term is no plainer. That each cast that narrows fits is proved.
 #![tactic(auto)]
 
 ghost use Rattle.std.specs.Prelude.{◌≡◌, ◌+◌, ◌-◌, ◌*◌, ◌≤◌, pos};

@@ -1,5 +1,5 @@
 // A text read under a base: the base as `new` tests it, the text's length, its first foreign byte, its items, their rules, and the record
-// that they build.
+// that they build. `text_quick` reads the commonest forms at once.
 
 #![tactic(auto)]
 

@@ -1,8 +1,8 @@
-// Times of day, as in items/time.rs: hours and minutes with seconds or without them, in 24 hours with a correction or in 12 hours with am
-// or pm.
+// The readers of times of day, as in items/time.rs: hours and minutes with seconds or without them, in 24 hours with a correction or in 12
+// hours with am or pm. The definitions and laws are in `times`.
 //
 // - Hour 0 with am or pm stops the reading; so does a correction out of range.
-// - What does not fit is left unread: in `10:00:60` the time ends in front of `:60`.
+// - What does not fit is left unread: in `10:00:60` the time ends before `:60`.
 
 #![tactic(auto)]
 

@@ -1,4 +1,5 @@
-// What offsets from UTC and times of day are. Their readers stand on this crate; the definitions and laws of these are here.
+// What offsets from UTC and times of day are, as in items/offset.rs and time.rs. The definitions and laws of their readers are here; the readers
+// are in `offsets` and `time_readers`.
 
 #![tactic(auto)]
 

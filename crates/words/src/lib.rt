@@ -1,4 +1,5 @@
-// Words, as in items/primitive.rs: a word is a run of letters, and `find_value` is what a table gives it.
+// Words, as in items/primitive.rs: a word is a run of letters, and `find_value` returns its value in a table. Ordinals are in ordinal.rs. The
+// definitions and laws are in `primitive`.
 
 #![tactic(auto)]
 

@@ -1,8 +1,7 @@
 // The text of a record, as 0005-01-02 03:04:05.000000006+00:00.
 //
-// The text is built as one value of 41 bytes and a length, to whose end each part is put, and is
-// copied out at the end. A record that `new` refuses gets `new`'s refusal, an offset that is not whole
-// minutes `Seam`, a lent place that is too short `Short`; a refusal writes nothing.
+// The text is built as one value of 41 bytes and a length (text.rs), to whose end each part is put, and is copied out at the end. A record that
+// `new` refuses gets `new`'s refusal, an offset of no whole minutes `Seam`, lent bytes that are too few `Short`; a refusal writes nothing.
 #![tactic(auto)]
 
 mod text;
