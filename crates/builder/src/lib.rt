@@ -6,8 +6,8 @@ ghost use Rattle.std.specs.Prelude.{◌≡◌};
 ghost use Rattle.answers.specs.Refusals.{outcome_of, placed_of};
 ghost use Rattle.builder.specs.Building.{start, on_date, on_offset, on_time, ahead, weeks, weekday_sum, delta, forwarded, on_weekday, add_relative, add_relatives, with_zone, on_zone, absolute, build_extended, built};
 
-use dates::date::Date;
 use answers::{PlacedRefusal, Refusal};
+use dates::date::Date;
 use extended::ExtendedDateTime;
 use items::Weekday;
 use relative::Relative;

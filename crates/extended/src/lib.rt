@@ -9,9 +9,8 @@ ghost use Rattle.std.specs.Prelude.{◌≡◌};
 ghost use Rattle.answers.specs.Refusals.{outcome_of};
 ghost use Rattle.extended.specs.Extended.{make, blank_record, date, time, date_of, time_of, test_date, test_time, test_offset, test, test_year, accept, with_date, with_time, with_offset};
 
-pub use calendar::{Civil, MonthDay, days_in_month, is_leap_year};
-
 use answers::{GNU_MAX_YEAR, Refusal};
+pub use calendar::{Civil, MonthDay, days_in_month, is_leap_year};
 
 #[repr(C)]
 #[derive(Clone, Copy, Default)]

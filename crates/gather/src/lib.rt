@@ -10,9 +10,9 @@ ghost use Rattle.answers.specs.Placed.{fine};
 ghost use Rattle.answers.specs.Refusals.{code, outcome_of, placed_of};
 ghost use Rattle.rules.specs.Rules.{empty, set_time, set_pure_year, set_pure_time, set_pure, set_item, rule_place, onward, add_item, relative_of, clock, set_hour, set_hour_and_minute};
 
+use answers::{MOST_ITEMS, PlacedRefusal, Refusal};
 use arrayvec::ArrayVec;
 use dates::date::Date;
-use answers::{MOST_ITEMS, PlacedRefusal, Refusal};
 use items::{Item, Pure};
 use relative::Relative;
 use rules::{DateTimeBuilder, Zone};

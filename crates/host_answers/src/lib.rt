@@ -1,12 +1,20 @@
 // What hosts are answered: a record, a moment or a number under number 0, or a refusal with its number
 // of the table of answers, and then the blank record, or 0 where a number was wanted.
+//
+// `calls` answers the calls that need no reader; `seqtullo` exports them and answers those that read.
 #![tactic(auto)]
+
+mod calls;
 
 ghost use Rattle.std.specs.Prelude.{◌≡◌};
 ghost use Rattle.answers.specs.Refusals.{outcome_of};
 ghost use Rattle.host_answers.specs.Hosts.{record_answer, moment_answer, number_answer};
 
 use answers::Refusal;
+pub use calls::{
+    add_days, add_hours, add_minutes, add_months, add_seconds, add_years, day_of_year,
+    days_in_month, from_unix_seconds, new, unix_seconds, weekday, write,
+};
 use extended::ExtendedDateTime;
 
 pub type Record = ExtendedDateTime;

@@ -1,7 +1,7 @@
 // The items of a text, written without the line's end: 0 and the items with `; ` between them, or the number and the place of a refusal.
 use crate::shown::Shown;
-use arrayvec::ArrayVec;
 use answers::{PlacedRefusal, Refusal};
+use arrayvec::ArrayVec;
 use items::Item;
 use primitive::Miss;
 use std::io::{Stdout, Write};

@@ -7,11 +7,11 @@
 ghost use Rattle.std.specs.Prelude.{◌≡◌};
 ghost use Rattle.packet_fields.specs.Fields.{year_of, date_of, offset_of, time_offset_of, time_of, day_of, weekday_of, unit_of, relative_of, item_of, date_in_range, offset_in_range, time_in_range, zone_in_range, pure_in_range, in_range, fitting, unpacked, found_of};
 
-use dates::date::Date;
 use answers::GNU_MAX_YEAR;
-use packet_fields::{Fields, flag, kind, unit};
+use dates::date::Date;
 use items::combined::DateTime;
 use items::{Day, Item, Pure, Weekday};
+use packet_fields::{Fields, flag, kind, unit};
 use relative::Relative;
 use times::offset::Offset;
 use times::time::Time;
@@ -121,9 +121,7 @@ fn relative_of(fields: Fields) -> Option<Item>
 fn fitting(fields: Fields, item: Item) -> Option<Item>
     ensures { found_of result ≡ fitting fields item }
 {
-    (in_range(item) && packet_encode::same(packet_encode::fields_of(item), fields)).then_some(
-        item,
-    )
+    (in_range(item) && packet_encode::same(packet_encode::fields_of(item), fields)).then_some(item)
 }
 
 // The caller wants an Option: `TryFrom` would have an error, made only to be dropped.

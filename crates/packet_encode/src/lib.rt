@@ -7,8 +7,8 @@ ghost use Rattle.items.specs.Items.{day_index};
 ghost use Rattle.packet_fields.specs.Fields.{twos_complement, sign_flag, with_date, with_time, of_zone, counted, of_relative, of_pure, fields_of, same};
 
 use dates::date::Date;
-use packet_fields::{Fields, flag, kind, unit};
 use items::{Item, Pure, Weekday};
+use packet_fields::{Fields, flag, kind, unit};
 use relative::Relative;
 use times::offset::Offset;
 use times::time::Time;
@@ -113,7 +113,12 @@ fn of_relative(relative: Relative) -> Fields
 fn of_unit(unit: u8, n: i32) -> Fields
     ensures { result ≡ counted 7 unit (twos_complement n) 0 }
 {
-    counted(kind::RELATIVE, unit, packet_fields::twos_complement(i64::from(n)), 0)
+    counted(
+        kind::RELATIVE,
+        unit,
+        packet_fields::twos_complement(i64::from(n)),
+        0,
+    )
 }
 
 fn of_seconds(n: i64, nanosecond: u32) -> Fields

@@ -7,8 +7,8 @@ ghost use Rattle.std.specs.Prelude.{◌≡◌, is_some};
 ghost use Rattle.answers.specs.Refusals.{outcome_of};
 ghost use Rattle.rules.specs.Rules.{has_offset, empty, need_midnight, set_date, set_time, set_weekday, set_zone, set_date_time};
 
-use dates::date::Date;
 use answers::Refusal;
+use dates::date::Date;
 use items::Weekday;
 use items::combined::DateTime;
 use times::offset::Offset;

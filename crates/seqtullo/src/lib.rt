@@ -1,5 +1,6 @@
 // The library as hosts call it: every function takes any arguments, answers by a number of the table
-// of answers, and a refusal carries the blank record, or 0 where a number was wanted.
+// of answers, and a refusal carries the blank record, or 0 where a number was wanted. `host_answers`
+// answers the calls that need no reader.
 #![tactic(auto)]
 
 ghost use Rattle.std.specs.Prelude.{◌≡◌, length, ◌≤◌};
@@ -13,7 +14,7 @@ ghost use Rattle.packet.specs.Packet.{read_packet};
 ghost use Rattle.host_answers.specs.Hosts.{record_answer, moment_answer, number_answer, placed_answer};
 
 use answers::PlacedRefusal;
-use extended::{DateParts, ExtendedDateTime, TimeParts};
+use extended::ExtendedDateTime;
 use host_answers::{Answer, Moment, Number, Record};
 use writer::Written;
 
@@ -30,14 +31,16 @@ pub extern "C" fn seqtullo_new(
 ) -> Answer
     ensures { result ≡ record_answer (accept (make (date year month day) (time hour minute second nanosecond) offset_seconds)) }
 {
-    let date = DateParts { year, month, day };
-    let time = TimeParts {
+    host_answers::new(
+        year,
+        month,
+        day,
         hour,
         minute,
         second,
         nanosecond,
-    };
-    ExtendedDateTime::new(date, time, offset_seconds).into()
+        offset_seconds,
+    )
 }
 
 #[unsafe(no_mangle)]
@@ -48,78 +51,77 @@ pub extern "C" fn seqtullo_from_unix_seconds(
 ) -> Answer
     ensures { result ≡ record_answer (from_unix_seconds unix_seconds nanosecond offset_seconds) }
 {
-    moments::from_unix_seconds(unix_seconds, nanosecond, offset_seconds).into()
+    host_answers::from_unix_seconds(unix_seconds, nanosecond, offset_seconds)
 }
 
 #[unsafe(no_mangle)]
 pub extern "C" fn seqtullo_unix_seconds(record: Record) -> Moment
     ensures { result ≡ moment_answer (unix_seconds «record») }
 {
-    moments::unix_seconds(record).into()
+    host_answers::unix_seconds(record)
 }
 
 #[unsafe(no_mangle)]
 pub extern "C" fn seqtullo_add_days(record: Record, days: i64) -> Answer
     ensures { result ≡ record_answer (add_days «record» days) }
 {
-    sums::checked_add_days(record, days).into()
+    host_answers::add_days(record, days)
 }
 
 #[unsafe(no_mangle)]
 pub extern "C" fn seqtullo_add_hours(record: Record, hours: i64) -> Answer
     ensures { result ≡ record_answer (add_hours «record» hours) }
 {
-    sums::checked_add_hours(record, hours).into()
+    host_answers::add_hours(record, hours)
 }
 
 #[unsafe(no_mangle)]
 pub extern "C" fn seqtullo_add_minutes(record: Record, minutes: i64) -> Answer
     ensures { result ≡ record_answer (add_minutes «record» minutes) }
 {
-    sums::checked_add_minutes(record, minutes).into()
+    host_answers::add_minutes(record, minutes)
 }
 
 #[unsafe(no_mangle)]
 pub extern "C" fn seqtullo_add_seconds(record: Record, seconds: i64, nanoseconds: u32) -> Answer
     ensures { result ≡ record_answer (add_seconds «record» seconds nanoseconds) }
 {
-    moments::checked_add_seconds(record, seconds, nanoseconds).into()
+    host_answers::add_seconds(record, seconds, nanoseconds)
 }
 
 #[unsafe(no_mangle)]
 pub extern "C" fn seqtullo_add_years(record: Record, years: i32) -> Answer
     ensures { result ≡ record_answer (add_years «record» years) }
 {
-    sums::checked_add_years(record, years).into()
+    host_answers::add_years(record, years)
 }
 
 #[unsafe(no_mangle)]
 pub extern "C" fn seqtullo_add_months(record: Record, months: i32) -> Answer
     ensures { result ≡ record_answer (add_months «record» months) }
 {
-    sums::checked_add_months(record, months).into()
+    host_answers::add_months(record, months)
 }
 
-// 0 for Monday to 6 for Sunday.
 #[unsafe(no_mangle)]
 pub extern "C" fn seqtullo_weekday(record: Record) -> Number
     ensures { result ≡ number_answer (weekday_monday0 «record») }
 {
-    moments::weekday_monday0(record).into()
+    host_answers::weekday(record)
 }
 
 #[unsafe(no_mangle)]
 pub extern "C" fn seqtullo_day_of_year(record: Record) -> Number
     ensures { result ≡ number_answer (day_of_year «record») }
 {
-    moments::day_of_year(record).into()
+    host_answers::day_of_year(record)
 }
 
 #[unsafe(no_mangle)]
 pub extern "C" fn seqtullo_days_in_month(year: u32, month: u8) -> u8
     ensures { result ≡ month_days year month }
 {
-    extended::days_in_month(year, month)
+    host_answers::days_in_month(year, month)
 }
 
 // Refusals from 2 to 8 and 22 have a place: a byte's index for 2 to 4 and 22, an item's for 5 to 8.
@@ -158,12 +160,10 @@ pub extern "C" fn seqtullo_read_packet(packet: &[u8], base: Record) -> Answer
     placed_answer(packet::read_packet(packet, base))
 }
 
-// Writes the record's text to the front of `out`; a refusal writes nothing.
-#[tactic(auto, using(writer::proofs::Writing::length_kept))]
 #[unsafe(no_mangle)]
 pub extern "C" fn seqtullo_write(record: Record, out: &mut [u8]) -> Written
     ensures value { result ≡ written_answer (written «record» (length out.old)) }
     ensures out_after { out.new ≡ over (bytes_of (written «record» (length out.old))) out.old }
 {
-    writer::write(record, out).into()
+    host_answers::write(record, out)
 }
