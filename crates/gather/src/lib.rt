@@ -10,7 +10,7 @@ ghost use Rattle.answers.specs.Placed.{fine};
 ghost use Rattle.answers.specs.Refusals.{code, outcome_of, placed_of};
 ghost use Rattle.rules.specs.Rules.{empty, set_time, set_pure_year, set_pure_time, set_pure, set_item, rule_place, onward, add_item, relative_of, clock, set_hour, set_hour_and_minute};
 
-use answers::{MOST_ITEMS, PlacedRefusal, Refusal};
+use answers::{PlacedRefusal, Refusal};
 use arrayvec::ArrayVec;
 use dates::date::Date;
 use items::{Item, Pure};
@@ -18,16 +18,16 @@ use relative::Relative;
 use rules::{DateTimeBuilder, Zone};
 use times::time::Time;
 
-// What the items give so far: the builder that they make, or the first broken rule, and the relative ones, 64 at most.
+// What the items give so far: the builder that they make, or the first broken rule, and the relative ones, at most N.
 #[derive(Drop)]
-pub struct Gathered {
+pub struct Gathered<const N: usize> {
     pub builder: Result<DateTimeBuilder, PlacedRefusal>,
-    pub relatives: ArrayVec<Relative, MOST_ITEMS>,
+    pub relatives: ArrayVec<Relative, N>,
 }
 
-impl Gathered {
+impl<const N: usize> Gathered<N> {
     // No item yet.
-    pub fn new() -> Gathered
+    pub fn new() -> Gathered<N>
         ensures builder { placed_of result.builder ≡ fine empty }
         ensures relatives { result.relatives.items ≡ [] }
     {
@@ -37,11 +37,24 @@ impl Gathered {
         }
     }
 
-    // One item more, and its index. A relative item is kept behind the others, of which there are 64 at most.
+    // What the first items gave; their relative ones, if there is room for them.
+    pub fn resume(
+        builder: Result<DateTimeBuilder, PlacedRefusal>,
+        first: &[Relative],
+    ) -> Gathered<N>
+        ensures builder { placed_of result.builder ≡ placed_of builder }
+        ensures relatives { length first.now ≤ N → result.relatives.items ≡ first.now }
+    {
+        let mut relatives = ArrayVec::new();
+        let _ = relatives.try_extend_from_slice(first);
+        Gathered { builder, relatives }
+    }
+
+    // One item more, and its index. A relative item is kept after the others, if there is room for it.
     pub fn add_item(&mut self, digits: &[u8], item: Item, index: usize)
         ensures builder { placed_of self.new.builder ≡ add_item (lowered digits.now) index item (placed_of self.old.builder) }
-        ensures kept { length self.old.relatives.items < 64 → self.new.relatives.items ≡ self.old.relatives.items ++ relative_of item }
-        ensures full { 64 ≤ length self.old.relatives.items → self.new.relatives.items ≡ self.old.relatives.items }
+        ensures kept { length self.old.relatives.items < N → self.new.relatives.items ≡ self.old.relatives.items ++ relative_of item }
+        ensures full { N ≤ length self.old.relatives.items → self.new.relatives.items ≡ self.old.relatives.items }
         ensures few { length self.new.relatives.items ≤ length self.old.relatives.items + 1 }
     {
         self.builder = under_rules(self.builder, digits, item, index);

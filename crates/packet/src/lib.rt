@@ -66,7 +66,7 @@ fn build_items(
     requires digits_len_bound { length digits.now < 65536 }
     ensures { placed_of result ≡ build_items packet.now (lowered digits.now) count base }
 {
-    let mut gathered = Gathered::new();
+    let mut gathered: Gathered<MOST_ITEMS> = Gathered::new();
     let mut used = 0;
     // the items are no slice: each is read out of the bytes by its index, which is its place too
     for i in 0..count {

@@ -145,14 +145,16 @@ fn placed_answer(read: Result<ExtendedDateTime, PlacedRefusal>) -> Answer
 }
 
 // Reads a text under a base.
+#[tactic(auto, using(text_general::proofs::Places::place_within))]
 #[unsafe(no_mangle)]
 pub extern "C" fn seqtullo_read_text(text: &[u8], base: Record) -> Answer
     ensures { result ≡ placed_answer (read_text text.now base) }
 {
-    placed_answer(text_quick::read_text(text, base))
+    placed_answer(text::read_text(text, base))
 }
 
 // Reads a packet under a base.
+#[tactic(auto, using(packet::proofs::Places::place_within))]
 #[unsafe(no_mangle)]
 pub extern "C" fn seqtullo_read_packet(packet: &[u8], base: Record) -> Answer
     ensures { result ≡ placed_answer (read_packet packet.now base) }

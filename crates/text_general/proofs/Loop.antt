@@ -22,19 +22,7 @@ use Rattle.rules.specs.declared.DateTimeBuilder.{DateTimeBuilder}
 use Rattle.rules.proofs.Order.{rules_more, relatives_more}
 use Rattle.builder.specs.Building.{built, build}
 use Rattle.text_general.specs.Reading.{items_of, build_parsed, build_text}
-
--- how it goes on behind a place where an item is tried
-abbrev go_on : Answer Item → ℕ → (Item → ℕ → Placed ExtendedDateTime) → Placed ExtendedDateTime
-go_on (matched v n) at f = f v n
-go_on (dropped v n) at f = refusal 22 at
-go_on none at f = refusal 3 at
-go_on stop at f = refusal 4 at
-
--- the answer, with room for so many more items behind those of which p and rs were made
-pub rest : List ℕ → ExtendedDateTime → ℕ → ℕ → Placed DateTimeBuilder → List Relative → ℕ → Placed ExtendedDateTime
-rest text base zero i p rs at = cond (ltb (space text at) (length text)) (go_on (kept (parse_item text at)) at (λ v n. refusal 1 0)) (built p rs base)
-rest text base (suc room) i p rs at =
-    cond (ltb (space text at) (length text)) (go_on (parse_item text at) at (λ v n. rest text base room (suc i) (add_item [] i v p) (rs ++ relative_of v) n)) (built p rs base)
+use Rattle.text_general.specs.Rest.{one, rest, left}
 
 -- an item more, in the words of the definition
 more : (text : List ℕ) (base : ExtendedDateTime) (room : ℕ) (xs : List Item) (x : Item) (n : ℕ) (v : Placed ExtendedDateTime) →
@@ -47,11 +35,11 @@ more text base room xs x n v e =
 -- the definition reads all items first
 whole : (text : List ℕ) (base : ExtendedDateTime) (room : ℕ) (xs : List Item) (at : ℕ) →
     (items_of (items_from parse_item room xs text at) >>= (λ ys. build [] ys base)) ≡ rest text base room (length xs) (gather [] 0 empty xs) (relatives xs) at
-unfolding rest items_from items_of build
-whole text base zero xs at = by (ltb (space text at) (length text)) (kept (parse_item text at))
+unfolding rest one items_from items_of build
+whole text base zero xs at = by (ltb (space text at) (length text)) (parse_item text at)
   where
     by : (t : Bool) (a : Answer Item) →
-        (items_of (cond t (further a xs at (λ v n. ended xs 1 0)) (ended xs 0 0)) >>= (λ ys. build [] ys base)) ≡ cond t (go_on a at (λ v n. refusal 1 0)) (built (gather [] 0 empty xs) (relatives xs) base)
+        (items_of (cond t (further (kept a) xs at (λ v n. ended xs 1 0)) (ended xs 0 0)) >>= (λ ys. build [] ys base)) ≡ cond t (one zero a at >>= (λ q. refusal 1 0)) (built (gather [] 0 empty xs) (relatives xs) base)
     by false a = refl
     by true (matched v n) = refl
     by true (dropped v n) = refl
@@ -64,7 +52,7 @@ whole text base (suc room) xs at = by (λ v n. more text base room xs v n _ (who
         (items_of (items_from parse_item room (xs ++ (v ∷ [])) text n) >>= (λ ys. build [] ys base)) ≡ rest text base room (suc (length xs)) (add_item [] (length xs) v (gather [] 0 empty xs)) (relatives xs ++ relative_of v) n) →
         (t : Bool) (a : Answer Item) →
         (items_of (cond t (further a xs at (λ v n. items_from parse_item room (xs ++ (v ∷ [])) text n)) (ended xs 0 0)) >>= (λ ys. build [] ys base))
-        ≡ cond t (go_on a at (λ v n. rest text base room (suc (length xs)) (add_item [] (length xs) v (gather [] 0 empty xs)) (relatives xs ++ relative_of v) n)) (built (gather [] 0 empty xs) (relatives xs) base)
+        ≡ cond t (one (suc room) a at >>= (λ q. rest text base room (suc (length xs)) (add_item [] (length xs) q.0 (gather [] 0 empty xs)) (relatives xs ++ relative_of q.0) q.1)) (built (gather [] 0 empty xs) (relatives xs) base)
     by later false a = refl
     by later true (matched v n) = later v n
     by later true (dropped v n) = refl
@@ -73,28 +61,40 @@ whole text base (suc room) xs at = by (λ v n. more text base room xs v n _ (who
 
 -- ---- the loop
 
--- what is left when `count` items are read to a place
-pub left : List ℕ → ExtendedDateTime → ℕ → Placed DateTimeBuilder → List Relative → ℕ → Placed ExtendedDateTime
-left text base count p rs at = rest text base (64 - count) count p rs at
-
 pub left_start : (text : List ℕ) (base : ExtendedDateTime) (p : Placed DateTimeBuilder) (rs : List Relative) → p ≡ fine empty → rs ≡ [] → left text base 0 p rs 0 ≡ build_text text base
 unfolding left build_text build_parsed parse_items relatives gather
 left_start text base p rs e k = rw (e, k) (sym (whole text base 64 [] 0))
 
--- where an item is tried: of the 65th it is not asked whether a digit was lost
-turn : List ℕ → ExtendedDateTime → ℕ → ℕ → Placed DateTimeBuilder → List Relative → ℕ → Answer Item → Placed ExtendedDateTime
-turn text base zero i p rs at a = go_on (kept a) at (λ v n. refusal 1 0)
-turn text base (suc room) i p rs at a = go_on a at (λ v n. rest text base room (suc i) (add_item [] i v p) (rs ++ relative_of v) n)
+-- one less, and 0 for 0
+less : ℕ → ℕ
+less zero = zero
+less (suc n) = n
+
+less_is : (n : ℕ) → less n ≡ n - 1
+unfolding less
+less_is zero = omega arith
+less_is (suc n) = omega arith
+
+-- how the reading goes on after an item
+abbrev after : List ℕ → ExtendedDateTime → ℕ → ℕ → Placed DateTimeBuilder → List Relative → Item × ℕ → Placed ExtendedDateTime
+after text base room i p rs q = rest text base (less room) (suc i) (add_item [] i q.0 p) (rs ++ relative_of q.0) q.1
 
 one_turn : (text : List ℕ) (base : ExtendedDateTime) (room i : ℕ) (p : Placed DateTimeBuilder) (rs : List Relative) (at : ℕ) →
-    rest text base room i p rs at ≡ cond (ltb (space text at) (length text)) (turn text base room i p rs at (parse_item text at)) (built p rs base)
-unfolding rest turn
-one_turn text base zero i p rs at = refl
+    rest text base room i p rs at ≡ cond (ltb (space text at) (length text)) (one room (parse_item text at) at >>= after text base room i p rs) (built p rs base)
+unfolding rest one less
+one_turn text base zero i p rs at = by (ltb (space text at) (length text)) (parse_item text at)
+  where
+    by : (t : Bool) (a : Answer Item) → cond t (one zero a at >>= (λ q. refusal 1 0)) (built p rs base) ≡ cond t (one zero a at >>= after text base zero i p rs) (built p rs base)
+    by false a = refl
+    by true (matched v n) = refl
+    by true (dropped v n) = refl
+    by true none = refl
+    by true stop = refl
 one_turn text base (suc room) i p rs at = refl
 
 module _ (s : List ℕ) (base : ExtendedDateTime) (count : ℕ) (p : Placed DateTimeBuilder) (rs : List Relative) (at : ℕ) (v : Placed ExtendedDateTime)
     (inv : left (lowered s) base count p rs at ≡ v) (start : ℕ) (here : start ≡ space (lowered s) at) where
-  opened : cond (ltb start (length s)) (turn (lowered s) base (64 - count) count p rs at (parse_item (lowered s) at)) (built p rs base) ≡ v
+  opened : cond (ltb start (length s)) (one (64 - count) (parse_item (lowered s) at) at >>= after (lowered s) base (64 - count) count p rs) (built p rs base) ≡ v
   unfolding left
   opened = rw (here, ← length_lowered s) (sym (one_turn (lowered s) base (64 - count) count p rs at) ∙ inv)
 
@@ -102,42 +102,71 @@ module _ (s : List ℕ) (base : ExtendedDateTime) (count : ℕ) (p : Placed Date
   left_end h r k = rw k (rw (le-ltb start (length s) h) at opened)
 
   module _ (h : start < length s) where
-    read : turn (lowered s) base (64 - count) count p rs at (parse_item (lowered s) at) ≡ v
+    read : (one (64 - count) (parse_item (lowered s) at) at >>= after (lowered s) base (64 - count) count p rs) ≡ v
     read = rw (lt-ltb start (length s) h) at opened
 
-    pub left_unread : none ≡ parse_item (lowered s) at → refusal 3 at ≡ v
-    unfolding turn
-    left_unread e = sym (for_any (64 - count)) ∙ (rw (← e) at read)
+    pub left_refused : (n place : ℕ) → refusal n place ≡ one (64 - count) (parse_item (lowered s) at) at → refusal n place ≡ v
+    left_refused n place e = rw (← e) at read
+
+    pub left_next : (x : Item) (n : ℕ) → fine (x, n) ≡ one (64 - count) (parse_item (lowered s) at) at → (q : Placed DateTimeBuilder) → q ≡ add_item [] count x p → (ys : List Relative) → ys ≡ rs ++ relative_of x → left (lowered s) base (count + 1) q ys n ≡ v
+    unfolding left
+    left_next x n e q f ys g =
+        let l : less (64 - count) ≡ 64 - suc count = less_is (64 - count) ∙ omega arith in
+        rw (add-one count, f, g) (rw (← e, l) at read)
+
+-- ---- the item that is tried
+
+module _ (text : List ℕ) (at count : ℕ) where
+  pub one_unread : none ≡ parse_item text at → refusal 3 at ≡ one (64 - count) (parse_item text at) at
+  unfolding one
+  one_unread e = rw (← e) (for_any (64 - count))
+    where
+      for_any : (room : ℕ) → refusal 3 at ≡ one room none at
+      for_any zero = refl
+      for_any (suc room) = refl
+
+  pub one_stopped : stop ≡ parse_item text at → refusal 4 at ≡ one (64 - count) (parse_item text at) at
+  unfolding one
+  one_stopped e = rw (← e) (for_any (64 - count))
+    where
+      for_any : (room : ℕ) → refusal 4 at ≡ one room stop at
+      for_any zero = refl
+      for_any (suc room) = refl
+
+  module _ (x : Item) (n : ℕ) (lossy : Bool) (e : carry lossy (matched x n) ≡ parse_item text at) where
+    pub one_full : count ≡ 64 → refusal 1 0 ≡ one (64 - count) (parse_item text at) at
+    unfolding one
+    one_full c = let z : 64 - count ≡ 0 = omega arith in rw (← e, z) (full lossy)
       where
-        for_any : (room : ℕ) → turn (lowered s) base room count p rs at none ≡ refusal 3 at
-        for_any zero = refl
-        for_any (suc room) = refl
+        full : (d : Bool) → refusal 1 0 ≡ one 0 (carry d (matched x n)) at
+        full true = refl
+        full false = refl
 
-    pub left_stopped : stop ≡ parse_item (lowered s) at → refusal 4 at ≡ v
-    unfolding turn
-    left_stopped e = sym (for_any (64 - count)) ∙ (rw (← e) at read)
+    module _ (d : count ≡ 64 → ⊥) (l : count ≤ 64) where
+      one_more : 64 - count ≡ suc (64 - suc count)
+      one_more = omega arith
+
+      pub one_dropped : lossy ≡ true → refusal 22 at ≡ one (64 - count) (parse_item text at) at
+      unfolding one
+      one_dropped t = rw (← e, one_more, t)
+
+      pub one_read : lossy ≡ false → fine (x, n) ≡ one (64 - count) (parse_item text at) at
+      unfolding one
+      one_read t = rw (← e, one_more, t)
+
+-- an item is read only while there is room
+pub one_room : (count at : ℕ) (a : Answer Item) {q : Item × ℕ} → fine q ≡ one (64 - count) a at → count < 64
+unfolding one
+one_room count at a {q} e = by (64 - count) a refl e
+  where
+    apart : {X : Type 0} {n place : ℕ} → fine q ≡ refusal n place → X
+    apart e = let z : ◌≡◌ {A = ℕ} 0 1 = cc in absurd (clash z)
       where
-        for_any : (room : ℕ) → turn (lowered s) base room count p rs at stop ≡ refusal 4 at
-        for_any zero = refl
-        for_any (suc room) = refl
-
-    module _ (x : Item) (n : ℕ) (lossy : Bool) (e : carry lossy (matched x n) ≡ parse_item (lowered s) at) where
-      pub left_full : count ≡ 64 → refusal 1 0 ≡ v
-      unfolding turn
-      left_full c = let z : 64 - count ≡ 0 = omega arith in full lossy (rw (← e, z) at read)
-        where
-          full : (d : Bool) → turn (lowered s) base 0 count p rs at (carry d (matched x n)) ≡ v → refusal 1 0 ≡ v
-          full true f = f
-          full false f = f
-
-      module _ (d : count ≡ 64 → ⊥) (l : count ≤ 64) where
-        one_more : 64 - count ≡ suc (64 - suc count)
-        one_more = omega arith
-
-        pub left_dropped : lossy ≡ true → refusal 22 at ≡ v
-        unfolding turn
-        left_dropped t = rw (← e, one_more, t) at read
-
-        pub left_next : lossy ≡ false → (q : Placed DateTimeBuilder) → q ≡ add_item [] count x p → (ys : List Relative) → ys ≡ rs ++ relative_of x → left (lowered s) base (count + 1) q ys n ≡ v
-        unfolding turn left
-        left_next t q f ys g = rw (add-one count, f, g) (rw (← e, one_more, t) at read)
+        clash : ◌≡◌ {A = ℕ} 0 1 → ⊥
+        clash z = omega arith
+    by : (room : ℕ) (a : Answer Item) → 64 - count ≡ room → fine q ≡ one room a at → count < 64
+    by zero (matched x n) h e = apart e
+    by zero (dropped x n) h e = apart e
+    by zero none h e = apart e
+    by zero stop h e = apart e
+    by (suc room) a h e = omega arith

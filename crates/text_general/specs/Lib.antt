@@ -1,2 +1,3 @@
 -- The definitions of the crate `text_general`.
 pub mod Reading
+pub mod Rest

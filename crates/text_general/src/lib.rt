@@ -1,81 +1,89 @@
-// A text read under a base: the base as `new` tests it, the text's length, its first foreign byte, its items, their rules, and the record
-// that they build. `text_quick` reads the commonest forms at once.
+// The record of a text's items under a base, read one after the other. `text` has the front door, which tests the base, the length and the bytes;
+// the definitions and laws of both are here. `text_quick` reads the commonest forms at once.
 
 #![tactic(auto)]
 
-ghost use Rattle.std.specs.Prelude.{◌≡◌};
-ghost use Rattle.primitive.specs.Text.{lower, lowered};
+ghost use Rattle.std.specs.Prelude.{◌≡◌, ◌-◌, ◌≤◌, length};
+ghost use Rattle.primitive.specs.Text.{lowered};
 ghost use Rattle.answers.specs.Refusals.{placed_of};
-ghost use Rattle.text_general.specs.Reading.{ascii, ascii_end, build_text, read_text};
+ghost use Rattle.items.specs.Items.{parse_item};
+ghost use Rattle.text_general.specs.Reading.{build_text};
+ghost use Rattle.text_general.specs.Rest.{left, one};
 
-use answers::{MAX_LENGTH, MOST_ITEMS, PlacedRefusal, Refusal};
+use answers::{MOST_ITEMS, PlacedRefusal, Refusal};
 use extended::ExtendedDateTime;
 use gather::Gathered;
+use items::Item;
 use primitive::Miss;
+use relative::Relative;
+use rules::DateTimeBuilder;
 
-#[tactic(auto, using(crate::proofs::Steps::steps))]
-pub fn read_text(text: &[u8], base: ExtendedDateTime) -> Result<ExtendedDateTime, PlacedRefusal>
-    ensures { placed_of result ≡ read_text text.now base }
-{
-    base.test()?;
-    if text.len() > MAX_LENGTH {
-        return Err(Refusal::Oversize.at(0));
-    }
-    let end = ascii_end(text);
-    if end < text.len() {
-        return Err(Refusal::Foreign.at(end));
-    }
-    build_text(text, base)
-}
+// The items that are read before places for 64 relative ones are made: most texts have no more.
+const FEW: usize = 4;
 
-// Where the bytes below 128 at the front end.
-#[tactic(auto, using(primitive::proofs::Runs::runs), unfolding(crate::specs::Reading::ascii_end))]
-fn ascii_end(text: &[u8]) -> usize
-    ensures { result ≡ ascii_end (lowered text.now) }
-{
-    // primitive's `past` has a premise about its closure, so it is not public; with `position` the proof did not close
-    for i in 0..text.len() {
-        if !is_ascii(text[i]) {
-            return i;
-        }
-    }
-    text.len()
-}
-
-// Whether the byte in lower case is below 128: exactly where it is so itself.
-#[tactic(auto, using(crate::proofs::Steps::steps))]
-fn is_ascii(byte: u8) -> bool
-    ensures { result ≡ ascii (lower byte) }
-{
-    byte < 128
-}
-
-// The record of a text's items, 64 at most: 1 where a 65th is read, 3 where no reader matches, 4 where one stops and 22 where an item lost
-// a digit, these three at the end of the item before. Each item is gathered as it is read, and none is kept but the relative ones; a broken
-// rule is answered after the last.
-fn build_text(text: &[u8], base: ExtendedDateTime) -> Result<ExtendedDateTime, PlacedRefusal>
+// The record of a text's items, 64 at most. Each item is added as it is read, and none is kept but the relative ones; a broken rule is
+// answered after the last item.
+pub fn build_text(text: &[u8], base: ExtendedDateTime) -> Result<ExtendedDateTime, PlacedRefusal>
     ensures { placed_of result ≡ build_text (lowered text.now) base }
 {
-    let mut gathered = Gathered::new();
+    let mut gathered: Gathered<FEW> = Gathered::new();
     let mut count = 0;
-    let mut i = 0;
+    let mut at = 0;
     // a step is as long as the item that was read, so there is no range
-    while spaces::space(text, i) < text.len() {
-        match item_readers::parse_item(text, i) {
-            Ok((item, next, dropped)) => {
-                if count == MOST_ITEMS {
-                    return Err(Refusal::Oversize.at(0));
-                }
-                if dropped {
-                    return Err(Refusal::Fraction.at(i));
-                }
-                gathered.add_item(&[], item, count);
-                count += 1;
-                i = next;
-            }
-            Err(Miss::NoMatch) => return Err(Refusal::Unread.at(i)),
-            Err(Miss::Stop) => return Err(Refusal::Stopped.at(i)),
+    while spaces::space(text, at) < text.len() {
+        if count == FEW {
+            let first = gathered.relatives.as_slice();
+            return build_rest(text, base, gathered.builder, first, count, at);
         }
+        let (item, next) = item_at(text, at, count)?;
+        gathered.add_item(&[], item, count);
+        count += 1;
+        at = next;
     }
     builder::build(gathered.builder, gathered.relatives.as_slice(), base)
+}
+
+// The same for the items from a place on, after `read` items, which gave a builder and the first relative items.
+fn build_rest(
+    text: &[u8],
+    base: ExtendedDateTime,
+    builder: Result<DateTimeBuilder, PlacedRefusal>,
+    first: &[Relative],
+    read: usize,
+    at: usize,
+) -> Result<ExtendedDateTime, PlacedRefusal>
+    requires { (read ≤ 64) × (length first.now ≤ read) }
+    ensures { placed_of result ≡ left (lowered text.now) base read (placed_of builder) first.now at }
+{
+    let mut gathered: Gathered<MOST_ITEMS> = Gathered::resume(builder, first);
+    let mut count = read;
+    let mut i = at;
+    while spaces::space(text, i) < text.len() {
+        let (item, next) = item_at(text, i, count)?;
+        gathered.add_item(&[], item, count);
+        count += 1;
+        i = next;
+    }
+    builder::build(gathered.builder, gathered.relatives.as_slice(), base)
+}
+
+// The item at a place, where one is tried after `count` others: 1 if it is the 65th, 3 if no reader matches, 4 if one stops, and 22 if it lost
+// a digit, these three at the end of the item before.
+fn item_at(text: &[u8], at: usize, count: usize) -> Result<(Item, usize), PlacedRefusal>
+    requires { count ≤ 64 }
+    ensures { placed_of result ≡ one (64 - count) (parse_item (lowered text.now) at) at }
+{
+    match item_readers::parse_item(text, at) {
+        Ok((item, next, dropped)) => {
+            if count == MOST_ITEMS {
+                return Err(Refusal::Oversize.at(0));
+            }
+            if dropped {
+                return Err(Refusal::Fraction.at(at));
+            }
+            Ok((item, next))
+        }
+        Err(Miss::NoMatch) => Err(Refusal::Unread.at(at)),
+        Err(Miss::Stop) => Err(Refusal::Stopped.at(at)),
+    }
 }

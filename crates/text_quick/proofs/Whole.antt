@@ -29,7 +29,6 @@ use Rattle.items.specs.declared.Item.TheVariants as item
 use Rattle.answers.specs.Placed.{fine, placed}
 use Rattle.builder.specs.Building.{add_relative, build}
 use Rattle.text_general.specs.Reading.{ascii, ascii_end, items_of, build_parsed, build_text, read_text}
-use Rattle.text_general.proofs.Steps.{ascii_low, all_read}
 use Rattle.text_quick.specs.Shifts.{Shift}
 use Rattle.text_quick.specs.Shapes.{Fronts, day_alone, combined, apart, Shaped, record_of, AtOnce}
 use Rattle.text_quick.specs.declared.Shape.{Shape}
@@ -87,25 +86,3 @@ module _ {text : List ℕ} (base : ExtendedDateTime) {x : Shape} (a : Shaped tex
 pub held : {A : Type 0} {o : Outcome A} {a : A} (r : Result A Refusal) → Some a ≡ result_ok r → outcome_of r ≡ o → accepted a ≡ o
 held {a = a} (Ok b) e g = let z : a ≡ b = cc in rw z g
 held (Err b) e g = let z : ◌≡◌ {A = ℕ} 0 1 = cc in absurd (clash z)
-
-pub passing : {o : Outcome Unit} (r : Result Unit Refusal) → is_ok r ≡ true → outcome_of r ≡ o → accepted tt ≡ o
-passing (Ok tt) e g = g
-passing (Err b) e g = let z : ◌≡◌ {A = ℕ} 0 1 = cc in absurd (clash z)
-
--- ---- bytes below 128
-
--- one byte more, where no byte so far is above `most`
-pub below_next : (s : List ℕ) (i most : ℕ) → (most < 128 → past ascii (lowered s) i ≡ ascii_end (lowered s)) → i < length s → max most (get_or s i 0) < 128 → past ascii (lowered s) (i + 1) ≡ ascii_end (lowered s)
-below_next s i most f h k =
-    let a = le-max_left most (get_or s i 0) in
-    let b = le-max_right most (get_or s i 0) in
-    sym (past_more ascii s i h (lower (get_or s i 0)) refl (sym (ascii_low (get_or s i 0) (omega arith)))) ∙ f (omega arith)
-
-pub below_all : (s : List ℕ) (i : ℕ) → past ascii (lowered s) i ≡ ascii_end (lowered s) → length s ≤ i → length s ≤ ascii_end (lowered s)
-below_all s i e h = let z = past_end ascii s i h in omega arith
-
--- ---- the whole
-
--- a text of bytes below 128 that is short, under an accepted base
-pub read_at_once : (s : List ℕ) (base : ExtendedDateTime) → accepted tt ≡ test base → length s ≤ 128 → length s ≤ ascii_end (lowered s) → {dt : ExtendedDateTime} → AtOnce (lowered s) base (Some dt) → fine dt ≡ read_text s base
-read_at_once s base e l k {dt} f = all_read s base tt e (omega arith) (ascii_end (lowered s)) refl k (fine dt) (sym (f (sym e)))

@@ -1,5 +1,6 @@
 // Texts of the commonest forms, read at once: a date, a time of day behind it or none, and then one relative item or none, as
-// `2024-03-13 09:30:00.000000000+00:00 +5 seconds`, `3/13/2024`, `13 march 2024 9:30 am`. Any other text is read as `text_general` does it.
+// `2024-03-13 09:30:00.000000000+00:00 +5 seconds`, `3/13/2024`, `13 march 2024 9:30 am`. `text` tries them first; any other text is read by
+// `text_general`.
 //
 // The quick readers answer a match only where the definitions read the same; their promises say so. Where they answer none, nothing is said.
 
@@ -13,13 +14,12 @@ mod shifts;
 ghost use Rattle.std.specs.Prelude.{◌≡◌, true, ◌<◌, ◌≤◌, length};
 ghost use Rattle.primitive.specs.Text.{lowered};
 ghost use Rattle.extended.specs.Extended.{accept};
-ghost use Rattle.answers.specs.Refusals.{outcome_of, placed_of};
+ghost use Rattle.answers.specs.Refusals.{outcome_of};
 ghost use Rattle.builder.proofs.DateAndTime.{offset_or};
-ghost use Rattle.text_general.specs.Reading.{ascii_end, read_text};
 ghost use Rattle.text_quick.specs.Days.{OtherDate};
 ghost use Rattle.text_quick.specs.Shapes.{ShapeOf, SeparatorAt, at_midnight, record_of, AtOnce};
 
-use answers::{PlacedRefusal, Refusal};
+use answers::Refusal;
 use extended::{DateParts, ExtendedDateTime, TimeParts};
 use times::offset::Offset;
 use times::time::Time;
@@ -35,33 +35,13 @@ struct Shape {
     next: usize,
 }
 
-// A text under a base, as `text_general` reads it.
-pub fn read_text(text: &[u8], base: ExtendedDateTime) -> Result<ExtendedDateTime, PlacedRefusal>
-    ensures { placed_of result ≡ read_text text.now base }
-{
-    if base.test().is_ok() && text.len() <= LONGEST && highest(text) < 128 {
-        if let Some(dt) = at_once(text, base) {
-            return Ok(dt);
-        }
-    }
-    text_general::read_text(text, base)
-}
-
-// A byte that no byte of the text is above; 0 for no text.
-fn highest(text: &[u8]) -> u8
-    ensures { result < 128 → length text.now ≤ ascii_end (lowered text.now) }
-{
-    let mut most: u8 = 0;
-    for byte in text {
-        most = most.max(*byte);
-    }
-    most
-}
-
-// The record of a text, if it is one of these.
-fn at_once(s: &[u8], base: ExtendedDateTime) -> Option<ExtendedDateTime>
+// The record of a text under an accepted base, if the text is of one of these forms.
+pub fn at_once(s: &[u8], base: ExtendedDateTime) -> Option<ExtendedDateTime>
     ensures { AtOnce (lowered s.now) base result }
 {
+    if LONGEST < s.len() {
+        return None;
+    }
     let x = read_shape(s)?;
     let dt = moment(x, base.offset_seconds).ok()?;
     if s.len() <= x.next {

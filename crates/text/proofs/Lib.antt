@@ -1,0 +1,3 @@
+-- The laws of the crate `text`.
+pub mod Steps
+pub mod Bytes
