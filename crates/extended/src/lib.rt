@@ -58,19 +58,18 @@ impl ExtendedDateTime {
         ExtendedDateTime::default()
     }
 
-    #[tactic(auto, unfolding(crate::specs::Extended::with_date))]
+    // What stays has been tested, so only the new part is.
+    #[tactic(auto, using(crate::proofs::Parts::parts))]
     pub fn with_date(self, year: u32, month: u8, day: u8) -> Result<ExtendedDateTime, Refusal>
         ensures { outcome_of result ≡ with_date self (date year month day) }
     {
         self.test()?;
-        ExtendedDateTime::new(
-            DateParts { year, month, day },
-            self.time(),
-            self.offset_seconds,
-        )
+        let date = DateParts { year, month, day };
+        test_date(date)?;
+        Ok(from_parts(date, self.time(), self.offset_seconds))
     }
 
-    #[tactic(auto, unfolding(crate::specs::Extended::with_time))]
+    #[tactic(auto, using(crate::proofs::Parts::parts))]
     pub fn with_time(
         self,
         hour: u8,
@@ -81,24 +80,23 @@ impl ExtendedDateTime {
         ensures { outcome_of result ≡ with_time self (time hour minute second nanosecond) }
     {
         self.test()?;
-        ExtendedDateTime::new(
-            self.date(),
-            TimeParts {
-                hour,
-                minute,
-                second,
-                nanosecond,
-            },
-            self.offset_seconds,
-        )
+        let time = TimeParts {
+            hour,
+            minute,
+            second,
+            nanosecond,
+        };
+        test_time(time)?;
+        Ok(from_parts(self.date(), time, self.offset_seconds))
     }
 
-    #[tactic(auto, unfolding(crate::specs::Extended::with_offset))]
+    #[tactic(auto, using(crate::proofs::Parts::parts))]
     pub fn with_offset(self, offset_seconds: i32) -> Result<ExtendedDateTime, Refusal>
         ensures { outcome_of result ≡ with_offset self offset_seconds }
     {
         self.test()?;
-        ExtendedDateTime::new(self.date(), self.time(), offset_seconds)
+        test_offset(offset_seconds)?;
+        Ok(from_parts(self.date(), self.time(), offset_seconds))
     }
 
     // The tests of `new`: the first that the record fails is its refusal.
