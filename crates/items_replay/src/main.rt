@@ -7,7 +7,7 @@
 // 99, which is no text's answer. The list has room for 65536 bytes.
 #![tactic(auto)]
 
-mod answers;
+mod replies;
 mod line;
 mod shown;
 
@@ -18,7 +18,7 @@ use std::io::{Stdout, Write};
 fn reply(out: &mut Stdout, line: &[u8]) -> std::io::Result<()> {
     match line::expanded(line) {
         Some(Line::Heading(text)) => out.write_all(text.as_slice())?,
-        Some(Line::Text(text)) => answers::write_items(out, text.as_slice())?,
+        Some(Line::Text(text)) => replies::write_items(out, text.as_slice())?,
         None => write!(out, "99")?,
     }
     writeln!(out)

@@ -73,5 +73,5 @@ fn put_line(line: &[u8], base: ExtendedDateTime, out: &mut [u8]) -> usize
     ensures upper_bound { result ≤ 44 }
     ensures put { Put (line_answer (read_text line.now base)) 0 out.old result out.new }
 {
-    line_answers::put_first(text::read_text(line, base), out)
+    line_answers::put_first(text_reader::read_text(line, base), out)
 }

@@ -73,7 +73,7 @@ impl Program {
         if line == held.len() {
             return self.read_on();
         }
-        match text::read_text(&held[..line], line_chunks::epoch()) {
+        match text_reader::read_text(&held[..line], line_chunks::epoch()) {
             Ok(base) => {
                 self.base = Some(base);
                 self.from += line + 1;

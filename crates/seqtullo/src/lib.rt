@@ -150,7 +150,7 @@ fn placed_answer(read: Result<ExtendedDateTime, PlacedRefusal>) -> Answer
 pub extern "C" fn seqtullo_read_text(text: &[u8], base: Record) -> Answer
     ensures { result ≡ placed_answer (read_text text.now base) }
 {
-    placed_answer(text::read_text(text, base))
+    placed_answer(text_reader::read_text(text, base))
 }
 
 // Reads a packet under a base.

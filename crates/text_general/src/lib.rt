@@ -1,5 +1,5 @@
-// The record of a text's items under a base, read one after the other. `text` has the front door, which tests the base, the length and the bytes;
-// the definitions and laws of both are here. `text_quick` reads the commonest forms at once.
+// The record of a text's items under a base, read one after the other. The definitions and laws of reading a text are here. `text_reader` is the
+// front door, which tests the base, the length and the bytes; `text_quick` reads the commonest forms at once.
 
 #![tactic(auto)]
 

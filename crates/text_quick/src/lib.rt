@@ -1,8 +1,8 @@
-// Texts of the commonest forms, read at once: a date, a time of day behind it or none, and then one relative item or none, as
-// `2024-03-13 09:30:00.000000000+00:00 +5 seconds`, `3/13/2024`, `13 march 2024 9:30 am`. `text` tries them first; any other text is read by
-// `text_general`.
+// Texts of the commonest forms, read at once: a date, then a time of day or none, then one relative item or none, as
+// `2024-03-13 09:30:00.000000000+00:00 +5 seconds`, `3/13/2024`, `13 march 2024 9:30 am`. `text_reader` tries these first; any other text is
+// read by `text_general`.
 //
-// The quick readers answer a match only where the definitions read the same; their promises say so. Where they answer none, nothing is said.
+// The quick readers return a match only if the definitions read the same; their promises say so. If they return none, nothing is said.
 
 #![tactic(auto)]
 

@@ -16,7 +16,7 @@ use Rattle.primitive.specs.Answer.{Answer, Reader, matched, dropped, none, stop,
 use Rattle.primitive.specs.Text.{byte}
 use Rattle.primitive.specs.Primitive.{space, spaced, decimal, parse_uint, dec_uint, dec_uint_str, colon, sign, plus_or_minus, alpha1, named}
 use Rattle.primitive.specs.Epoch.{sec_and_nsec}
-use Rattle.primitive.specs.Ordinal.{from_twos_complement, ordinals, text_ordinal, signed_number, number_ordinal, ordinal}
+use Rattle.primitive.specs.Ordinal.{signed, ordinals, text_ordinal, signed_number, number_ordinal, ordinal}
 use Rattle.primitive.specs.declared.SecAndNsec.{SecAndNsec}
 use Rattle.primitive.proofs.Limits.{Fraction, nsec_below}
 use Rattle.primitive.proofs.Rows.{halves, both}
@@ -254,8 +254,8 @@ small_turned true (pos zero) h = h
 small_turned true (pos (suc n)) h = h
 small_turned true (negsuc n) h = h
 
-small_signed : (t : Bool) (n : ℕ) → leb n 2147483647 ≡ true → Small (from_twos_complement t n)
-unfolding from_twos_complement
+small_signed : (t : Bool) (n : ℕ) → leb n 2147483647 ≡ true → Small (signed t n)
+unfolding signed
 small_signed false n h = omega (arith, leb-true n 2147483647 h)
 small_signed true zero h = omega arith
 small_signed true (suc n) h = omega (arith, leb-true (suc n) 2147483647 h)
@@ -296,8 +296,8 @@ in_unit_gives z w s =
     (one_more (pure_gives GoodRelative _ (some_seconds z 0 (wide z h) (omega arith))) (one_more (pure_gives GoodRelative _ (some_seconds z 0 (wide z h) (omega arith))) no_more)))))))))))
     (λ f g. g)
 
-below_zero_in : (n : ℕ) → n ≤ 9223372036854775808 → in_i64 (from_twos_complement true n) ≡ true
-unfolding from_twos_complement
+below_zero_in : (n : ℕ) → n ≤ 9223372036854775808 → in_i64 (signed true n) ≡ true
+unfolding signed
 below_zero_in zero h = refl
 below_zero_in (suc n) h = lt-ltb n 9223372036854775808 (omega arith)
 
@@ -306,9 +306,9 @@ unfolding rounded
 rounded_good false v e h = some_seconds (pos v.sec) v.nsec e (omega arith)
 rounded_good true v e h = go (eqb v.nsec 0)
   where
-    go : (t : Bool) → GoodRelative (cond t (relative.Seconds (from_twos_complement true v.sec) 0) (relative.Seconds (from_twos_complement true (v.sec + 1)) (1000000000 - v.nsec)))
-    go true = some_seconds (from_twos_complement true v.sec) 0 (below_zero_in v.sec (omega (arith, ltb-true v.sec 9223372036854775808 e))) (omega arith)
-    go false = some_seconds (from_twos_complement true (v.sec + 1)) (1000000000 - v.nsec) (below_zero_in (v.sec + 1) (omega (arith, ltb-true v.sec 9223372036854775808 e))) (omega arith)
+    go : (t : Bool) → GoodRelative (cond t (relative.Seconds (signed true v.sec) 0) (relative.Seconds (signed true (v.sec + 1)) (1000000000 - v.nsec)))
+    go true = some_seconds (signed true v.sec) 0 (below_zero_in v.sec (omega (arith, ltb-true v.sec 9223372036854775808 e))) (omega arith)
+    go false = some_seconds (signed true (v.sec + 1)) (1000000000 - v.nsec) (below_zero_in (v.sec + 1) (omega (arith, ltb-true v.sec 9223372036854775808 e))) (omega arith)
 
 relative_gives : Gives GoodRelative relative-parse
 unfolding relative-parse seconds signed_seconds displacement displaced

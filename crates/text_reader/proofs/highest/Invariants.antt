@@ -3,7 +3,7 @@ use Prim.Native.Nat.{◌<◌}
 use mathlib.Core.Path.{◌≡◌}
 use Rattle.primitive.specs.Text.{lowered, past}
 use Rattle.text_general.specs.Reading.{ascii, ascii_end}
-use Rattle.text.proofs.highest.Given as goal
+use Rattle.text_reader.proofs.highest.Given as goal
 
 abbrev pub invariant-loop-byte : goal.invariant-loop-byte
 invariant-loop-byte l = (l.most < 128 → past ascii (lowered l.text) l.byte-index ≡ ascii_end (lowered l.text))

@@ -1,8 +1,8 @@
 -- Where the answer is below 128 every byte is. Assumes nothing.
 use mathlib.Core.Path.{refl}
 use Rattle.text_general.specs.Reading.{ascii_end}
-use Rattle.text.proofs.Bytes.{below_next, below_all}
-use Rattle.text.proofs.highest.Goals as goal
+use Rattle.text_reader.proofs.Bytes.{below_next, below_all}
+use Rattle.text_reader.proofs.highest.Goals as goal
 
 pub loop-byte-init : goal.loop-byte-init
 unfolding ascii_end

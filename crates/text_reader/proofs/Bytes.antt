@@ -10,7 +10,7 @@ use Rattle.primitive.proofs.Runs.{past_more, past_end}
 use Rattle.primitive.proofs.Forward.{run_le}
 use Rattle.primitive.proofs.Lowered.{length_lowered}
 use Rattle.text_general.specs.Reading.{ascii, ascii_end}
-use Rattle.text.proofs.Steps.{ascii_low}
+use Rattle.text_reader.proofs.Steps.{ascii_low}
 
 -- one byte more, where no byte so far is above `most`
 pub below_next : (s : List ℕ) (i most : ℕ) → (most < 128 → past ascii (lowered s) i ≡ ascii_end (lowered s)) → i < length s → max most (get_or s i 0) < 128 → past ascii (lowered s) (i + 1) ≡ ascii_end (lowered s)

@@ -1,7 +1,7 @@
--- `items_replay::answers::items_of` is safe and ends: no more than 64 items are read. Assumes nothing.
+-- `items_replay::replies::items_of` is safe and ends: no more than 64 items are read. Assumes nothing.
 use Prim.Native.Nat.{◌-◌, ◌≤◌}
 use Rattle.arrayvec.specs.ArrayVec.{array_vec_len}
-use Rattle.items_replay.proofs.answers.items_of.Given as goal
+use Rattle.items_replay.proofs.replies.items_of.Given as goal
 
 abbrev pub invariant-loop-item : goal.invariant-loop-item
 invariant-loop-item l = array_vec_len l.items ≤ 64

@@ -1,3 +1,0 @@
--- The laws of the crate `text`.
-pub mod Steps
-pub mod Bytes

@@ -1,0 +1,3 @@
+-- The laws of the crate `text_reader`.
+pub mod Steps
+pub mod Bytes
