@@ -51,18 +51,21 @@ impl<const N: usize> Gathered<N> {
     }
 
     // One item more, and its index. A relative item is kept after the others, if there is room for it.
+    #[tactic(auto, using(rules::proofs::Order::no_rule))]
     pub fn add_item(&mut self, digits: &[u8], item: Item, index: usize)
         ensures builder { placed_of self.new.builder ≡ add_item (lowered digits.now) index item (placed_of self.old.builder) }
         ensures kept { length self.old.relatives.items < N → self.new.relatives.items ≡ self.old.relatives.items ++ relative_of item }
         ensures full { N ≤ length self.old.relatives.items → self.new.relatives.items ≡ self.old.relatives.items }
         ensures few { length self.new.relatives.items ≤ length self.old.relatives.items + 1 }
     {
-        self.builder = under_rules(self.builder, digits, item, index);
+        // a relative item has no rule
         if let Item::Relative(relative) = item {
             if !self.relatives.is_full() {
                 self.relatives.push(relative);
             }
+            return;
         }
+        self.builder = under_rules(self.builder, digits, item, index);
     }
 }
 

@@ -1,5 +1,6 @@
 -- The laws of one item more at the end: its rule, and its relative item. Assumes nothing.
 use Rattle.items.specs.declared.Item.{Item}
+use Rattle.items.specs.declared.Item.TheVariants as item
 use Rattle.relative.specs.declared.Relative.{Relative}
 use native.Mathlib.Omega.{arith}
 use native.Mathlib.Nat.{add-zero}
@@ -10,6 +11,7 @@ use mathlib.Core.List.{List, [], ◌∷◌, ◌++◌, append-nil, append_assoc}
 use lib.ListN.{length, take, set}
 use lib.Seq.{take-set-le, take-suc-set}
 use Rattle.answers.specs.Outcome.{Outcome, accepted, refused}
+use Rattle.answers.specs.Placed.{Placed, fine, refusal}
 use Rattle.rules.specs.Rules.{empty, set_item, onward, gather, add_item, relative_of, relatives}
 use Rattle.rules.specs.declared.DateTimeBuilder.{DateTimeBuilder}
 
@@ -38,3 +40,9 @@ pub one_more : (count n : ℕ) (rs ys : List Relative) (p : Relative) → n ≤ 
 one_more count zero rs ys p h e l = rw (← e, append-nil (take count rs), add-zero count) (take-set-le count rs count p (omega arith))
 one_more count (suc zero) rs ys p h e l = rw (← e, add-one count) (take-suc-set rs count p l)
 one_more count (suc (suc n)) rs ys p h e l = absurd (omega arith)
+
+-- a relative item changes nothing of what the others gave
+pub no_rule : (digits : List ℕ) (i : ℕ) (r : Relative) (p : Placed DateTimeBuilder) → p ≡ add_item digits i (item.Relative r) p
+unfolding add_item set_item
+no_rule digits i r (fine b) = refl
+no_rule digits i r (refusal n at) = refl
