@@ -1003,7 +1003,7 @@ fn random_calls(random: &mut Random, visit: &mut Visit) {
     visit(Call::IsLeapYear(random.sized(32) as u32));
 }
 
-/// The examples of document 01.
+/// The examples of docs/SCOPE.md, 'Thirteen examples'.
 fn example_calls(visit: &mut Visit) {
     for (unix, offset) in [
         (0, 0),

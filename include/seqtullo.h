@@ -7,7 +7,7 @@
  * thread may call with SEQTULLO_STACK bytes of stack left; a thread of 128 KiB starts with them unless its thread-local variables
  * take more than a few KiB.
  *
- * A pointer with length 0 may be null; no byte behind it is touched.
+ * A pointer with length 0 may be null; nothing is read or written there.
  */
 #ifndef SEQTULLO_H
 #define SEQTULLO_H
@@ -26,19 +26,19 @@ enum {
     SEQTULLO_UNREAD = 3,      /* no reader matches; place: where the item before ended */
     SEQTULLO_STOPPED = 4,     /* a reader stops; place: where the item before ended */
     SEQTULLO_PACKET = 5,      /* a packet rule broken; place: the item's index, the item count for digits left over, 0 in the header */
-    SEQTULLO_TWICE = 6,       /* date, time, weekday or zone again; place: the item's index */
-    SEQTULLO_RIVAL = 7,       /* a time with an offset beside a zone; place: the item's index */
+    SEQTULLO_TWICE = 6,       /* a second date, time, weekday or zone, or a zone after a time with an offset; place: the item's index */
+    SEQTULLO_RIVAL = 7,       /* a time with an offset, after a zone (a zone after such a time is 6); place: the item's index */
     SEQTULLO_PURE = 8,        /* a pure number that is no hour and minute; place: the item's index */
-    SEQTULLO_OVER = 9,        /* year above 2147485547, or a pure year that no u32 holds */
-    SEQTULLO_UNDER = 10,      /* year below 0, or one that no u32 holds */
+    SEQTULLO_OVER = 9,        /* a year above 2147485547, or a pure year that no u32 can represent */
+    SEQTULLO_UNDER = 10,      /* a year below 0, or a computed year that no u32 can represent */
     SEQTULLO_MONTH = 11,      /* out of range, as the five below */
     SEQTULLO_DAY = 12,
     SEQTULLO_HOUR = 13,
     SEQTULLO_MINUTE = 14,
     SEQTULLO_SECOND = 15,
     SEQTULLO_NANOSECOND = 16,
-    SEQTULLO_OFFSET = 17,     /* beyond 86400 seconds either way */
-    SEQTULLO_SUM = 18,        /* a sum or product that leaves an i64, nanoseconds that leave a u32, or weeks to a weekday that leave an i32 */
+    SEQTULLO_OFFSET = 17,     /* more than 86400 seconds either way */
+    SEQTULLO_SUM = 18,        /* a sum or product that leaves an i64, nanoseconds that leave a u32, or days to a weekday that leave an i32 */
     SEQTULLO_SHORT = 19,      /* the place to write to is shorter than the text */
     SEQTULLO_SEAM = 20,       /* the offset is not whole minutes, on writing */
     /* no answer has number 21 */
@@ -97,8 +97,9 @@ struct seqtullo_answer seqtullo_read_text(const uint8_t *text, size_t text_lengt
    amount; what the kind does not use is 0. Then the digits of the pure numbers, in order, to the end. */
 struct seqtullo_answer seqtullo_read_packet(const uint8_t *packet, size_t packet_length, struct seqtullo_record base);
 
-/* Writes the record's text, as `2024-03-13 09:30:00.000000000+00:00`, to the front of `out`: 35 to 41 bytes; those behind it stay. Read
-   under any base the text is the record again, and with ` +N seconds` or ` -N seconds` behind it the record N seconds away. */
+/* Writes the record's text, as `2024-03-13 09:30:00.000000000+00:00`, to the front of `out`: 35 to 41 bytes; those after it stay. Read under
+   any accepted base, the text gives the record again. With ` +N seconds` or ` -N seconds` after it, N at most 9223372036854775807, it gives
+   the record N seconds later or earlier, and is refused exactly where there is none. */
 struct seqtullo_written seqtullo_write(struct seqtullo_record record, uint8_t *out, size_t out_length);
 
 /* The record of eight numbers, if each is in range. */
@@ -109,7 +110,7 @@ struct seqtullo_answer seqtullo_new(uint32_t year, uint8_t month, uint8_t day, u
 struct seqtullo_answer seqtullo_from_unix_seconds(int64_t unix_seconds, uint32_t nanosecond, int32_t offset_seconds);
 struct seqtullo_moment seqtullo_unix_seconds(struct seqtullo_record record);
 
-/* The record that lies so far, with the same nanosecond and offset: refused exactly where there is none. */
+/* The record so many days, hours or minutes away, with the same nanosecond and offset: refused exactly where there is none. */
 struct seqtullo_answer seqtullo_add_days(struct seqtullo_record record, int64_t days);
 struct seqtullo_answer seqtullo_add_hours(struct seqtullo_record record, int64_t hours);
 struct seqtullo_answer seqtullo_add_minutes(struct seqtullo_record record, int64_t minutes);
@@ -117,7 +118,7 @@ struct seqtullo_answer seqtullo_add_minutes(struct seqtullo_record record, int64
 /* Seconds, and nanoseconds on top: at most one second is carried out of the nanoseconds. */
 struct seqtullo_answer seqtullo_add_seconds(struct seqtullo_record record, int64_t seconds, uint32_t nanoseconds);
 
-/* The same day of another year or month; where that has no such day, as many days behind its last. */
+/* The same day of another year or month. Where that has no such day: its last day, and the days that were cut off are added. */
 struct seqtullo_answer seqtullo_add_years(struct seqtullo_record record, int32_t years);
 struct seqtullo_answer seqtullo_add_months(struct seqtullo_record record, int32_t months);
 

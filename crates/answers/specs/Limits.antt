@@ -1,7 +1,7 @@
--- The limits of texts, packets and years: document 01, 'Domain and limits' and 'The counted calendar'.
+-- The limits of texts, packets and years: docs/SCOPE.md, 'Domain and limits' and 'The writer'.
 use Rattle.std.specs.Prelude.{ℕ}
 
--- "Text has 0 to 4096 bytes"
+-- the most bytes that a text may have
 abbrev pub max_length : ℕ
 max_length = 4096
 
@@ -13,6 +13,6 @@ most_items = 64
 abbrev pub longest_text : ℕ
 longest_text = 41
 
--- "2147485547 is the last year"
+-- the last year of an accepted record
 abbrev pub last_year : ℕ
 last_year = 2147485547

@@ -1,4 +1,5 @@
--- The numbers of the answers, each with its word and its meaning: document 01, 'Answers by number'. 0 is the answer itself; no answer is 21.
+-- The numbers of the answers, each with its word and its meaning: docs/SCOPE.md, 'Answers by number'. Number 0 is the answer itself; no
+-- answer has number 21.
 use Rattle.std.specs.Prelude.{ℕ}
 
 -- oversize: a text over 4096 bytes, a 65th item, or a packet's item count above 64

@@ -1,4 +1,4 @@
--- What a call answers: document 01, 'Answers by number'.
+-- What a call answers: docs/SCOPE.md, 'Answers by number'.
 use Rattle.std.specs.Prelude.{ℕ, Bool, true, false}
 
 -- a value under number 0, or the number of a refusal
@@ -16,7 +16,7 @@ abbrev pub value_or : {A : Type 0} → A → Outcome A → A
 value_or blank (accepted a) = a
 value_or blank (refused n) = blank
 
--- one step after another, of which the first refusal is the answer: what `do` is written with
+-- One step after another; the first refusal is the answer. `do` is written with these.
 infixl 20 ◌>>=◌ ◌>>◌
 abbrev pub ◌>>=◌ : {A B : Type 0} → Outcome A → (A → Outcome B) → Outcome B
 accepted a >>= f = f a

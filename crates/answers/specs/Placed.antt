@@ -1,4 +1,4 @@
--- An answer with the place of its refusal: document 01, 'Answers by number'.
+-- An answer with the place of its refusal: docs/SCOPE.md, 'Answers by number'.
 use Rattle.std.specs.Prelude.{ℕ}
 use Rattle.answers.specs.Outcome.{Outcome, accepted, refused}
 
@@ -16,7 +16,7 @@ abbrev pub ◌>>◌ : {A B : Type 0} → Placed A → Placed B → Placed B
 fine a >> q = q
 refusal n at >> q = refusal n at
 
--- an answer whose refusal stands at a place
+-- an answer whose refusal is at a place
 abbrev pub placed : {A : Type 0} → ℕ → Outcome A → Placed A
 placed at (accepted a) = fine a
 placed at (refused n) = refusal n at

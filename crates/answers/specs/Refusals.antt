@@ -1,4 +1,4 @@
--- What the code answers is an answer of the definitions: document 01, 'Answers by number'.
+-- The answers of the code, as answers of the definitions: docs/SCOPE.md, 'Answers by number'.
 use Rattle.std.specs.Prelude.{ℕ, Result, Ok, Err}
 use Rattle.answers.specs.Outcome.{Outcome, accepted, refused}
 use Rattle.answers.specs.Placed.{Placed, fine, refusal}

@@ -1,4 +1,4 @@
--- How the items make a record of the base: document 01, 'items/weekday.rs, items/builder.rs'.
+-- How the items make a record of the base: docs/SCOPE.md, 'Building', 'Weekdays' and 'Zones'.
 use Rattle.answers.specs.Numbers as refusal
 use Rattle.std.specs.Prelude.{Option, Some, None, cond}
 use Rattle.items.specs.declared.Item.{Item}
@@ -30,7 +30,7 @@ start b bare base = cond (need_midnight b bare) (with_time base (time 0 0 0 0)) 
 
 -- ---- date, time, weekday
 
--- a date without year is one of the base's year
+-- a date without year is of the base's year
 abbrev pub year_or : ℕ → Option ℕ → ℕ
 year_or y (Some x) = x
 year_or y None = y
@@ -58,11 +58,11 @@ nearer (negsuc n) = negsuc n
 unfoldable pub weeks : ℤ → Bool → ℤ
 weeks n same = cond same n (nearer n)
 
--- the days from one day of the week to another that comes on it or behind it
+-- the days from one day of the week to the next that is another, 0 to itself
 unfoldable pub ahead : ℕ → ℕ → ℕ
 ahead today target = (target % 7 + 7 - today % 7) % 7
 
--- the weeks in days, and the days ahead; "the weekday sum" is 18
+-- the weeks in days plus the days ahead; 18 if the product or the sum leaves an i32
 unfoldable pub weekday_sum : ℤ → ℕ → Outcome ℤ
 weekday_sum n k = do
   check (in_i32 (n *ℤ pos 7)) refusal.sum
@@ -86,7 +86,7 @@ on_weekday (Some w) r = do
 
 -- ---- relative items and zone
 
--- 29.7: "Relative items adjust a date (or the current date if none) forward or backward."
+-- 29.7: "'Relative items' adjust a date (or the current date if none) forward or backward."
 unfoldable pub add_relative : Relative → ExtendedDateTime → Outcome ExtendedDateTime
 add_relative (relative.Years n) r = add_years r n
 add_relative (relative.Months n) r = add_months r n
@@ -135,6 +135,6 @@ build_extended b rs base = do
 unfoldable pub built : Placed DateTimeBuilder → List Relative → ExtendedDateTime → Placed ExtendedDateTime
 built p rs base = placed.◌>>=◌ p (λ b. placed.placed 0 (build_extended b rs base))
 
--- The rules of all items come before anything is done.
+-- All rules are tried before anything is built.
 unfoldable pub build : List ℕ → List Item → ExtendedDateTime → Placed ExtendedDateTime
 build digits xs base = built (gather digits 0 empty xs) (relatives xs) base

@@ -102,7 +102,7 @@ fn on_offset(given: Option<Offset>, dt: ExtendedDateTime) -> Result<ExtendedDate
     dt.with_offset(offset.total_seconds())
 }
 
-// The clock stands at midnight or at the time that is given.
+// The clock is at midnight or at the time that is given.
 #[tactic(auto, unfolding(crate::specs::Building::on_weekday))]
 fn on_weekday(given: Option<Weekday>, dt: ExtendedDateTime) -> Result<ExtendedDateTime, Refusal>
     ensures { outcome_of result ≡ on_weekday given dt }
@@ -144,7 +144,7 @@ fn ahead(today: u32, target: u32) -> u32
     (target % 7 + 7 - today % 7) % 7
 }
 
-// The weeks to go forward: one less where the day itself lies ahead.
+// The weeks to add: one less if they are above 0 and today is another day of the week.
 #[tactic(auto, unfolding(crate::specs::Building::weeks))]
 fn weeks(offset: i32, same: bool) -> i32
     ensures { result ≡ weeks offset same }
@@ -174,8 +174,7 @@ fn add_relatives(relatives: &[Relative], dt: ExtendedDateTime) -> Result<Extende
     Ok(dt)
 }
 
-// A record as far away as one relative item says. As a call, it would have `text_quick` put the item together in memory: 20 to 50 instructions a
-// text.
+// The record that one relative item leads to. As a call, it would make `text_quick` build the item in memory: 20 to 50 instructions a text.
 #[inline(always)]
 #[tactic(auto, unfolding(crate::specs::Building::add_relative))]
 pub fn add_relative(relative: Relative, dt: ExtendedDateTime) -> Result<ExtendedDateTime, Refusal>

@@ -1,8 +1,8 @@
--- Document 01, 'The counted calendar': years, months and days, by counting.
+-- Years, months and days, by counting: docs/SCOPE.md, 'The counted calendar'.
 use Rattle.std.specs.Prelude.{ℕ, zero, suc, ◌+◌, ◌-◌, ◌%◌, ◌≤◌, Bool, not, ◌&&◌, ◌||◌, cond, List, [], ◌∷◌, eqb, ltb, get_or}
 use Rattle.calendar.specs.declared.Civil.{Civil}
 
--- "A year has 366 days if 400 divides it, or if 4 does and 100 doesn't; any other has 365."
+-- whether a year has 366 days: if 400 divides it, or if 4 does and 100 doesn't; any other has 365
 unfoldable pub leap : ℕ → Bool
 leap y = eqb (y % 400) 0 || (eqb (y % 4) 0 && not (eqb (y % 100) 0))
 
@@ -14,7 +14,7 @@ unfoldable pub days_before_year : ℕ → ℕ
 days_before_year zero = 0
 days_before_year (suc y) = days_before_year y + year_days y
 
--- "Its months have 31, 28, 31, 30, 31, 30, 31, 31, 30, 31, 30 and 31 days, the second 29 in a year of 366."
+-- the days of the months; the second has 29 in a year of 366
 abbrev pub month_table : List ℕ
 month_table = 31 ∷ 28 ∷ 31 ∷ 30 ∷ 31 ∷ 30 ∷ 31 ∷ 31 ∷ 30 ∷ 31 ∷ 30 ∷ 31 ∷ []
 
@@ -27,8 +27,8 @@ unfoldable pub days_of_months : ℕ → ℕ → ℕ
 days_of_months y zero = 0
 days_of_months y (suc k) = days_of_months y k + month_days y (suc k)
 
--- "A date's day number is the days of all years from 0 to the one before its own, plus the days of the months before its own
--- in its year, plus its day less 1"
+-- the days before a date from 0000-01-01 on: those of the earlier years, of the earlier months of its year, and the earlier days of its
+-- month
 unfoldable pub day_number : ℕ → ℕ → ℕ → ℕ
 day_number y m d = days_before_year y + days_of_months y (m - 1) + (d - 1)
 

@@ -46,7 +46,7 @@ fn days_before_year(year: u64) -> u64
     365 * year + (year + 3) / 4 - centuries + (centuries + 3) / 4
 }
 
-// A date, with its year in whatever type holds it.
+// A date, with its year in any type.
 #[derive(Clone, Copy)]
 pub struct Civil<Y> {
     pub year: Y,
@@ -69,7 +69,7 @@ pub fn days_from_civil(year: u32, month: u8, day: u8) -> u64
     days + (979 * march_month - 2919) / 32 + day.max(1) as u64 - 146038
 }
 
-// The date of a day number: the block of 400 years that holds it, the year in the block, the month in the year.
+// The date of a day number: the block of 400 years that contains it, the year in the block, the month in the year.
 pub fn civil_from_days(days: u64) -> Civil<u64>
     ensures { result ≡ civil days }
 {
@@ -84,8 +84,8 @@ pub fn civil_from_days(days: u64) -> Civil<u64>
     }
 }
 
-// The year of a block of 400 that holds a day of the block. No year has more than 366 days, and the years of a block are so
-// few that the quotient is at most one too small.
+// The year of a block of 400 that contains a day of the block. No year has more than 366 days, and the years of a block are
+// so few that the quotient is at most one too small.
 fn year_in_block(day: u32) -> u32
     requires { day < 146097 }
     ensures { (days_before_year result ≤ day) × (day < days_before_year (result + 1)) }

@@ -18,7 +18,7 @@ impl Arguments {
         self.values.try_push(value).ok()
     }
 
-    // An argument in its type. The list has none that its type can't hold or that is not there: it would be 0.
+    // An argument in its type. One that the type can't represent, or that is missing, would be 0; the list has none.
     pub fn at<T: TryFrom<i64> + Default>(&self, place: usize) -> T
     where
         T::Error: Drop,

@@ -68,8 +68,8 @@ fn end_of_text(s: &[u8], at: usize) -> Option<usize>
     if s.len() <= at { Some(at) } else { None }
 }
 
-// A year that stands at `start`, with a blank or the end of the text behind it. Where there is none, what was read from `at` to
-// `start` is given back.
+// A year at `start`, with a blank or the end of the text after it. Where there is none, what was read from `at` to `start` is
+// given back.
 #[tactic(auto, unfolding(dates::specs::Date::ended))]
 fn ended_year(s: &[u8], at: usize, start: usize) -> Option<(&[u8], usize)>
     ensures { year_answer at result ≡ or_else (ended (lowered s.now) start) (matched unwritten at) }
@@ -79,7 +79,7 @@ fn ended_year(s: &[u8], at: usize, start: usize) -> Option<(&[u8], usize)>
     Some((digits, next))
 }
 
-// The date with a year that stands at `start`, or without one.
+// The date with a year at `start`, or without one.
 #[tactic(auto, unfolding(dates::specs::Date::written_at, dates::specs::Date::dated))]
 fn dated(s: &[u8], at: usize, start: usize, on: MonthDay) -> Option<(Date, usize)>
     ensures { answer_of result ≡ written_at (or_else (ended (lowered s.now) start) (matched unwritten at)) on.month on.day (lowered s.now) }
@@ -90,7 +90,7 @@ fn dated(s: &[u8], at: usize, start: usize, on: MonthDay) -> Option<(Date, usize
     }
 }
 
-// The place behind a hyphen, or the same place.
+// The place after a hyphen, or the same place.
 #[tactic(auto, unfolding(dates::specs::Date::hyphen))]
 pub fn hyphen(s: &[u8], at: usize) -> usize
     ensures { matched tt result ≡ hyphen (lowered s.now) at }
@@ -98,7 +98,7 @@ pub fn hyphen(s: &[u8], at: usize) -> usize
     spaces::spaced_byte(s, at, b'-').unwrap_or(at)
 }
 
-// GNU quirk: a comma only with a blank behind it, as in `Nov 14, 2022`.
+// GNU quirk: a comma only with a blank after it, as in `Nov 14, 2022`.
 #[tactic(auto, unfolding(dates::specs::Date::comma))]
 fn comma(s: &[u8], at: usize) -> usize
     ensures { matched tt result ≡ comma (lowered s.now) at }
@@ -109,8 +109,8 @@ fn comma(s: &[u8], at: usize) -> usize
         .map_or(at, |(_, next)| next)
 }
 
-// The date with the year that follows, or without one: at once, behind a hyphen, behind a comma. A public function each, one line over what
-// they share.
+// The date with the year that follows, or without one: at once, after a hyphen, after a comma. A public function each, one line over what they
+// share.
 #[tactic(auto, unfolding(dates::specs::Date::dated_behind, dates::specs::Date::ended_year, dates::specs::Date::nothing, dates::specs::Date::written_at))]
 pub fn plain_dated(s: &[u8], at: usize, on: MonthDay) -> Option<(Date, usize)>
     ensures { answer_of result ≡ dated_behind nothing on.month on.day (lowered s.now) at }

@@ -22,7 +22,7 @@ with_year w m d = do
   y ← year_from_str w
   verify (exists y m d) (date_of (Some y) m d)
 
--- "A date without year may be 29 February; the base year judges it later": 2000 is a leap year
+-- SCOPE, 'Dates': a date without year may be 29 February, since 2000 is a leap year. Building tests it in the base's year.
 unfoldable pub without_year : ℕ → ℕ → Reader Date
 without_year m d = verify (exists 2000 m d) (date_of None m d)
 
@@ -35,21 +35,21 @@ unfoldable pub dated : WrittenYear → ℕ → ℕ → Reader Date
 dated (written w) m d = with_year w m d
 dated unwritten m d = without_year m d
 
--- what has to stand behind a year
+-- what has to follow a year
 unfoldable pub end_of_text : Reader (Unit {0})
 end_of_text text at = cond (leb (length text) at) (matched tt at) none
 
 unfoldable pub blank_or_end : Reader (Unit {0})
 blank_or_end = value tt multispace1 <|> end_of_text
 
--- a year with a blank or the end of the text behind it
+-- a year and, after it, a blank or the end of the text
 unfoldable pub ended : Reader WrittenYear
 ended = do
   w ← year_str
   blank_or_end
   pure (written w)
 
--- such a year behind what p reads, or none
+-- such a year after what p reads, or none
 unfoldable pub ended_year : Reader (Unit {0}) → Reader WrittenYear
 ended_year p = optional unwritten (p >> ended)
 
@@ -65,7 +65,7 @@ nothing = pure tt
 unfoldable pub hyphen : Reader (Unit {0})
 hyphen = optional tt (spaced (char "-"))
 
--- the Rust wants a blank behind the comma of "Nov 14, 2022"
+-- the Rust wants a blank after the comma of `Nov 14, 2022`
 unfoldable pub comma : Reader (Unit {0})
 comma = optional tt (spaced (char "," >> value tt multispace1))
 
@@ -78,8 +78,8 @@ dotted = do
   spaced (char ".")
   dated_behind nothing m d
 
--- 29.2: "the ISO 8601 format 'year-month-day' is allowed, where year is any positive number, month is a number between 01 and 12,
--- and day is a number between 01 and 31". The Rust asks for no leading zero.
+-- 29.2: "the ISO 8601 format 'YEAR-MONTH-DAY' is allowed, where YEAR is any positive number, MONTH is a number between 01 and 12,
+-- and DAY is a number between 01 and 31". The Rust asks for no leading zero.
 unfoldable pub iso1 : Reader Date
 iso1 = do
   w ← year_str
@@ -92,7 +92,7 @@ iso1 = do
 unfoldable pub five_digits : List ℕ → Reader (Unit {0})
 five_digits w text at = cond (leb 5 (length w)) (matched tt at) none
 
--- `20221114`: five digits or more, the last four of them month and day, no space in front
+-- `20221114`: five digits or more, the last four of them month and day; no space may come before it
 unfoldable pub iso2 : Reader Date
 iso2 = do
   w ← dec_uint_str
@@ -101,7 +101,7 @@ iso2 = do
   d ← parse_uint 255 (drop (length w - 2) w)
   with_year (take (length w - 4) w) m d
 
--- 29.2: "The construct 'month/day/year', popular in the United States, is accepted. Also 'month/day', omitting the year."
+-- 29.2: "The construct 'MONTH/DAY/YEAR', popular in the United States, is accepted. Also 'MONTH/DAY', omitting the year."
 -- The Rust takes the first number as the year if it has 4 digits or more.
 unfoldable pub us_date : List ℕ → ℕ → WrittenYear → Reader Date
 us_date w n (written v) =
@@ -129,7 +129,7 @@ us = do
   us_rest w n
 
 -- 29.2: "Literal months may be spelled out in full .. may be abbreviated to their first three letters, possibly followed by an
--- abbreviating dot. It is also permitted to write 'Sept' instead of 'September'." Not so "sept." (document 01, items/date.rs).
+-- abbreviating dot. It is also permitted to write 'Sept' instead of 'September'." But `sept.` is no month (SCOPE, 'Dates').
 unfoldable pub months : List (String × ℕ)
 months =
     ("january", 1) ∷ ("jan", 1) ∷ ("jan.", 1) ∷ ("february", 2) ∷ ("feb", 2) ∷ ("feb.", 2) ∷ ("march", 3) ∷ ("mar", 3) ∷ ("mar.", 3)
@@ -181,7 +181,7 @@ unfoldable pub parse_non_iso : Reader Date
 parse_non_iso = dotted <|> (us <|> literal)
 
 -- ---- the code's answers
--- a year that may be absent: its digits, and the place behind
+-- a year that may be absent: its digits, and the place after them
 abbrev pub year_answer : ℕ → Option (Bor (List ℕ) × ℕ) → Answer WrittenYear
 year_answer at (Some y) = matched (written (lowered y.0.now)) y.1
 year_answer at None = matched unwritten at

@@ -37,7 +37,7 @@ fn point_or_comma(s: &[u8], at: usize) -> Option<usize>
     primitive::byte(s, at, b'.').or_else(|| primitive::byte(s, at, b','))
 }
 
-// The value of nine digits: those that are given, and zeros behind them where there are fewer.
+// The value of nine digits: those that are given, and zeros after them where there are fewer.
 #[tactic(auto, using(primitive::proofs::Fractions::fractions))]
 fn nanoseconds(digits: &[u8]) -> u32
     requires { run digit (lowered digits.now) ≡ length digits.now }

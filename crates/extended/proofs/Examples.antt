@@ -1,5 +1,5 @@
--- Document 01's four moments and its three ends of months and years, which stand with the six years in one table of crate dates; and
--- definitions tried by computing. Assumes nothing.
+-- The four moments and the three ends of months and years of docs/SCOPE.md, 'Thirteen examples', which are with the six years in one table of
+-- crate dates; and definitions tried by computing. Assumes nothing.
 use Prim.Native.Nat.{ℕ}
 use mathlib.Core.Path.{◌≡◌, refl, sym, ap, ◌∙◌}
 use lib.IntN.{ℤ, pos, negsuc, ◌+ℤ◌, ◌*ℤ◌}
@@ -23,7 +23,7 @@ midnight y m d = at y m d 0 0 0
 back : (r : ExtendedDateTime) → test r ≡ accepted tt → (u : ℤ) → moment r ≡ u → from_unix_seconds u r.nanosecond r.offset_seconds ≡ accepted r
 back r t u e = ap (λ (x : ℤ). from_unix_seconds x r.nanosecond r.offset_seconds) (sym e) ∙ from_moment r (facts r t)
 
--- "0 seconds at offset 0 is 1970-01-01 ..; -1 is 1969-12-31 23:59:59. -62167219200 is 0000-01-01; one less is 10."
+-- SCOPE, 'Thirteen examples': 0, -1, -62167219200 and -62167219201 seconds at offset 0
 pub epoch : from_unix_seconds (pos 0) 0 (pos 0) ≡ accepted (midnight 1970 1 1)
 unfolding make test test_date test_time test_offset moment clock_seconds day_number days_before_year year_days leap days_of_months month_days
 epoch = back (midnight 1970 1 1) refl (pos 0) refl
@@ -48,7 +48,7 @@ later y m d n y' m' d' t t' e =
     units_to 86400 (midnight y m d) (pos n) (midnight y' m' d') (facts (midnight y m d) t)
     (record { accepted_record = facts (midnight y' m' d') t'; moment_moved = e; nanosecond_kept = refl; offset_kept = refl })
 
--- "2023-01-31 plus one month is 2023-03-03, 2024-01-31 plus one month is 2024-03-02, 2024-02-29 plus one year is 2025-03-01."
+-- SCOPE, 'Thirteen examples': the end of January plus a month in 2023 and in 2024, and 29 February 2024 plus a year
 pub march_2023 : add_months (midnight 2023 1 31) (pos 1) ≡ accepted (midnight 2023 3 3)
 unfolding add_months clamp with_date accept make test test_date test_time test_offset test_year sum natural_of moment clock_seconds day_number days_before_year year_days leap days_of_months month_days
 march_2023 = later 2023 2 28 3 2023 3 3 refl refl refl

@@ -1,4 +1,4 @@
--- The counted calendar, which the crate `calendar` has, and the weekday of its first day.
+-- The counted calendar of the crate `calendar`, and the days of the week from that of its first day.
 use Rattle.std.specs.Prelude.{ℕ}
 pub use Rattle.calendar.specs.Calendar.{month_table, Valid, ymd}
 unfoldable pub use Rattle.calendar.specs.Calendar.{leap, year_days, days_before_year, month_days, days_of_months, day_number, next_day, civil, next_weekday, weekday}

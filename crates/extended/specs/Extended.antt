@@ -1,4 +1,4 @@
--- What the functions of `extended` answer: document 01, 'extended.rs' and 'Answers by number'.
+-- What the functions of `extended`, `moments` and `sums` answer: docs/SCOPE.md, 'Records', 'Moments' and 'Sums'.
 use Rattle.answers.specs.Numbers as refusal
 use Rattle.answers.specs.Limits.{last_year}
 use Rattle.std.specs.Prelude.{ℕ, ◌+◌, ◌-◌, ◌*◌, ◌/◌, ◌%◌, min, ◌&&◌, cond, ltb, leb, ℤ, pos, negsuc, ◌+ℤ◌, ◌-ℤ◌, Option, Some, None}
@@ -12,12 +12,12 @@ use Rattle.extended.specs.declared.TimeParts.{TimeParts}
 use Rattle.extended.specs.declared.ExtendedDateTime.{ExtendedDateTime}
 
 -- ---- whole numbers that may be too large, or below 0
--- "an overflow the Rust names" is 18
+-- an overflow that the Rust names is 18
 abbrev pub checked : Option ℤ → Outcome ℤ
 checked (Some z) = accepted z
 checked None = refused refusal.sum
 
--- "year below 0" is 10
+-- a year below 0 is 10
 abbrev pub from_zero : Option ℕ → Outcome ℕ
 from_zero (Some n) = accepted n
 from_zero None = refused refusal.under
@@ -40,7 +40,7 @@ date_of r = date r.year r.month r.day
 abbrev pub time_of : ExtendedDateTime → TimeParts
 time_of r = time r.hour r.minute r.second r.nanosecond
 
--- the blank record: "eight zeros"
+-- the blank record: eight zeros
 abbrev pub blank_record : ExtendedDateTime
 blank_record = make (date 0 0 0) (time 0 0 0 0) (pos 0)
 
@@ -58,7 +58,7 @@ test_time t = do
   check (leb t.second 59) refusal.second
   check (leb t.nanosecond 999999999) refusal.nanosecond
 
--- "the offset runs from -86400 to 86400"; -86400 is written -1 - 86399
+-- an offset is from -86400 to 86400 seconds; -86400 is written -1 - 86399
 unfoldable pub test_offset : ℤ → Outcome (Unit {0})
 test_offset o = check (le_z (negsuc 86399) o && le_z o (pos 86400)) refusal.offset
 
@@ -79,7 +79,7 @@ accept r = do
 unfoldable pub clock_seconds : ExtendedDateTime → ℕ
 clock_seconds r = day_number r.year r.month r.day * 86400 + r.hour * 3600 + r.minute * 60 + r.second
 
--- "day number × 86400 + hour × 3600 + minute × 60 + second - offset - 62167219200, in whole numbers without bound"
+-- SCOPE, 'Moments': the seconds from 1970-01-01 00:00:00 at offset 0, in whole numbers without bound
 unfoldable pub moment : ExtendedDateTime → ℤ
 moment r = pos (clock_seconds r) -ℤ r.offset_seconds -ℤ pos 62167219200
 
@@ -88,13 +88,13 @@ unix_seconds r = do
   test r
   accepted (moment r)
 
--- 9 above the last year; "A year above 4294967295 gets 10"
+-- 9 for a year above the last, but 10 for one that no u32 can represent
 unfoldable pub test_year : ℕ → Outcome (Unit {0})
 test_year y = do
   check (leb y 4294967295) refusal.under
   check (leb y last_year) refusal.over
 
--- the record whose own clock is s seconds past 0000-01-01 00:00:00
+-- the record whose own clock is s seconds after 0000-01-01 00:00:00
 unfoldable pub clock_record : ℕ → ℕ → ℤ → ExtendedDateTime
 clock_record s n o =
     let t = civil (s / 86400) in
@@ -105,7 +105,7 @@ from_clock s n o = do
   test_year (civil (s / 86400)).year
   accepted (clock_record s n o)
 
--- "tests nanosecond, offset, the sum, then the year"
+-- the nanosecond is tested, then the offset, then the sum of moment and offset, then the year
 unfoldable pub from_unix_seconds : ℤ → ℕ → ℤ → Outcome ExtendedDateTime
 from_unix_seconds u n o = do
   check (leb n 999999999) refusal.nanosecond
@@ -131,13 +131,13 @@ with_offset r o = do
   accept (make (date_of r) (time_of r) o)
 
 -- ---- sums
--- with the nanoseconds' sum n: "at most one second is carried"
+-- n is the sum of the nanoseconds, from which at most one second is carried
 unfoldable pub carried : ℤ → ℕ → ℤ → Outcome ExtendedDateTime
 carried s n o = cond (ltb n 1000000000) (from_unix_seconds s n o) (do
   next ← checked (sum s (pos 1))
   from_unix_seconds next (n - 1000000000) o)
 
--- "sum first, then the nanosecond sum, which must stay below 4294967296"
+-- first the sum of moment and seconds, then that of the nanoseconds, which must be below 4294967296
 unfoldable pub add_seconds : ExtendedDateTime → ℤ → ℕ → Outcome ExtendedDateTime
 add_seconds r d k = do
   test r
@@ -161,7 +161,7 @@ add_hours r n = add_units 3600 r n
 unfoldable pub add_minutes : ExtendedDateTime → ℤ → Outcome ExtendedDateTime
 add_minutes r n = add_units 60 r n
 
--- "Months and years clamp the day, then add the clamped-off days"
+-- the day is clamped to the last of its new month, and the days clamped off are added
 unfoldable pub clamp : ExtendedDateTime → ℕ → ℕ → Outcome ExtendedDateTime
 clamp r y m = do
   test_year y

@@ -207,7 +207,7 @@ pub fn test_offset(offset_seconds: i32) -> Result<(), Refusal>
     Ok(())
 }
 
-// The Rust's quirk: a year that no u32 holds is refused as a negative one is.
+// The Rust's quirk: a year that no u32 can represent is refused as a year below 0 is.
 #[tactic(auto, unfolding(crate::specs::Extended::test_year))]
 pub fn test_year(year: u64) -> Result<(), Refusal>
     ensures { outcome_of result ≡ test_year year }

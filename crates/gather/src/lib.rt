@@ -111,7 +111,7 @@ fn set_item(builder: DateTimeBuilder, digits: &[u8], item: Item) -> Result<DateT
     }
 }
 
-// A pure number is the year of a date that has none, or else a time. Its digits stand in `digits`.
+// A pure number is the year of a date that has none, or else a time. Its digits are in `digits`.
 #[tactic(auto, unfolding(rules::specs::Rules::set_pure))]
 fn set_pure(builder: DateTimeBuilder, digits: &[u8], pure: Pure) -> Result<DateTimeBuilder, Refusal>
     ensures { outcome_of result ≡ set_pure (lowered digits.now) builder pure }

@@ -1,4 +1,4 @@
--- What hosts are answered: document 01, 'Answers by number'.
+-- What hosts are answered: docs/SCOPE.md, 'Answers by number'.
 use Rattle.std.specs.Prelude.{ℕ, ℤ, pos}
 use Rattle.answers.specs.Outcome.{Outcome, number, value_or}
 use Rattle.extended.specs.Extended.{blank_record}
@@ -9,7 +9,7 @@ use Rattle.host_answers.specs.declared.Answer.{Answer}
 use Rattle.host_answers.specs.declared.Moment.{Moment}
 use Rattle.host_answers.specs.declared.Number.{Number}
 
--- "0 is a record. Else the record is blank: eight zeros"; a number from 9 to 18 has place 0
+-- number 0 and the record, or the number of a refusal and the blank record; the place is 0
 unfoldable pub record_answer : Outcome ExtendedDateTime → Answer
 record_answer o = record { number = number o; place = 0; «record» = value_or blank_record o }
 
@@ -17,7 +17,7 @@ record_answer o = record { number = number o; place = 0; «record» = value_or b
 unfoldable pub placed_answer : Placed ExtendedDateTime → Answer
 placed_answer p = record { number = number_of p; place = place_of p; «record» = placed.value_or blank_record p }
 
--- "where a length, a moment or another number was wanted, it is 0"
+-- number 0 and the moment, or the number of a refusal and 0
 unfoldable pub moment_answer : Outcome ℤ → Moment
 moment_answer o = record { number = number o; seconds = value_or (pos 0) o }
 

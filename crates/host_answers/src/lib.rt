@@ -19,7 +19,7 @@ use extended::ExtendedDateTime;
 
 pub type Record = ExtendedDateTime;
 
-// A refusal has its place here too: document 01 says which numbers have one.
+// A refusal has its place here too; docs/SCOPE.md, 'Answers by number', says which numbers have one.
 #[repr(C)]
 #[derive(Clone, Copy)]
 pub struct Answer {

@@ -22,14 +22,14 @@ attempt p text at = unstopped (p text at)
 abbrev pub skip_space : Reader (Unit {0})
 skip_space text at = matched tt (space text at)
 
--- a `t` behind space, or one blank and the space behind it
+-- a `t` after space, or one byte 32 and the space after it
 unfoldable pub separator : Reader (Unit {0})
 separator = spaced (char "t") <|> (char " " >> skip_space)
 
 unfoldable pub meridiem_word : Reader (Unit {0})
 meridiem_word = quoted "am" <|> (quoted "pm" <|> (quoted "a.m." <|> quoted "p.m."))
 
--- The Rust asks for am or pm behind blanks; a comment is none.
+-- The Rust looks for am or pm after blanks; a comment is none.
 unfoldable pub starts_with_meridiem : Reader (Unit {0})
 starts_with_meridiem = multispace0 >> meridiem_word
 
@@ -41,7 +41,7 @@ iso_alone = do
   t ← iso
   unless_meridiem t
 
--- Document 01, items/combined.rs: a meridiem after the time sends it to `time::parse`. So does an ISO time that stops.
+-- SCOPE, 'Combined items': a meridiem after the time sends it to `time::parse`. So does an ISO time that stops.
 unfoldable pub combined_time : Reader Time
 combined_time = attempt iso_alone <|> parse
 

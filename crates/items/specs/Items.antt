@@ -1,4 +1,4 @@
--- The items of a text, as in items/mod.rs. 29.1: "A date is a string, possibly empty, containing many items separated by whitespace."
+-- The items of a text, as in items/mod.rs. 29.1: "A 'date' is a string, possibly empty, containing many items separated by whitespace."
 use Rattle.answers.specs.Numbers as refusal
 use Rattle.answers.specs.Limits.{most_items}
 use Rattle.std.specs.Prelude.{ℕ, zero, suc, List, [], ◌∷◌, ◌++◌, length, ltb, cond}
@@ -24,7 +24,7 @@ day_index day.Friday = 4
 day_index day.Saturday = 5
 day_index day.Sunday = 6
 
--- Document 01, items/combined.rs: a date followed by no time is a date alone.
+-- SCOPE, 'Combined items': where no time follows, the date is an item by itself.
 unfoldable pub date_time_item : Date → Reader Item
 date_time_item d = do
   v ← parse_time_after_date d
@@ -62,7 +62,7 @@ time_or_relative = time_item <|> relative_item
 unfoldable pub other_item : Reader Item
 other_item = date_item <|> time_or_relative
 
--- Document 01, items/mod.rs: `iso1`, `iso2` (then a time), `parse_non_iso`, `time::parse`, relative.
+-- SCOPE, 'The list of items': `iso1`, `iso2` (each then with a time), `parse_non_iso`, `time::parse`, relative.
 unfoldable pub parse_item : Reader Item
 parse_item = iso_item <|> other_item
 
@@ -77,8 +77,8 @@ pub record Parsed : Type 0 where
 abbrev pub ended : List Item → ℕ → ℕ → Parsed
 ended xs number place = record { items = xs; number = number; place = place }
 
--- Document 01: 3 where no reader matches, 4 where one stops; docs/requests/02-long-fractions.md: 22 where an item lost a digit. All three are
--- at the end of the item before.
+-- SCOPE, 'The list of items': 3 where no reader matches, 4 where one stops, 22 where an item lost a digit. The place of all three is the end
+-- of the item before.
 abbrev pub further : Answer Item → List Item → ℕ → (Item → ℕ → Parsed) → Parsed
 further (matched v n) xs at f = f v n
 further (dropped v n) xs at f = ended xs refusal.fraction at
@@ -92,8 +92,8 @@ kept (dropped v n) = matched v n
 kept none = none
 kept stop = stop
 
--- Document 01, items/mod.rs: the end of text is tried before each item, which p reads. After the items xs there is room for so many more;
--- 1 where one is read beyond them, whether or not it lost a digit.
+-- SCOPE, 'The list of items': the end of the text is looked for before each item, which p reads. After the items xs there is room for so many
+-- more; 1 where one is read beyond them, whether or not it lost a digit.
 unfoldable pub items_from : Reader Item → ℕ → List Item → List ℕ → ℕ → Parsed
 items_from p zero xs text at =
     cond (ltb (space text at) (length text)) (further (kept (p text at)) xs at (λ v n. ended xs refusal.oversize 0)) (ended xs 0 0)

@@ -31,7 +31,7 @@ pub struct Weekday {
     pub day: Day,
 }
 
-// Where the digits of a pure number stand in the digits that come with the items.
+// Where the digits of a pure number are, in the digits that come with the items.
 #[derive(Clone, Copy)]
 pub struct Pure {
     pub start: u16,

@@ -1,4 +1,4 @@
-// A line of the list, with what its braces stand for.
+// A line of the list, with what its braces mean.
 ghost use Rattle.std.specs.Prelude.{◌<◌, ◌≤◌, IfSome, length};
 
 use arrayvec::ArrayVec;
@@ -11,8 +11,8 @@ pub enum Line {
     Text(ArrayVec<u8, 4096>),
 }
 
-// The line that bytes are, unless its text is too long. Braces that the list has no use for mean something too: `}` that ends no part takes away
-// what stands behind the last one, and a number that nothing ends is the end of the line.
+// The line that bytes are, unless its text is too long. Braces that the list has no use for mean something too: a `}` that ends no part takes
+// away what follows the last one, and a number that nothing ends is the end of the line.
 pub fn expanded(bytes: &[u8]) -> Option<Line> {
     let mut text = ArrayVec::new();
     // Where the part began that the next `}` ends, and how many copies there will be of it.

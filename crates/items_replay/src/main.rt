@@ -3,7 +3,7 @@
 // the gate.
 //
 // A line is a text, a tab, and the reason why it is in the list, which is skipped; a line without a tab is a heading and is written as it is. In
-// a text, `{N}` is the byte of that number and `{N:PART}` is N times PART, which holds no brace. A text that is longer than 4096 bytes is answered by
+// a text, `{N}` is the byte of that number and `{N:PART}` is N times PART, without a brace. A text that is longer than 4096 bytes is answered by
 // 99, which is no text's answer. The list has room for 65536 bytes.
 #![tactic(auto)]
 
@@ -29,7 +29,7 @@ fn replay(out: &mut Stdout) -> std::io::Result<()> {
     let mut list = io::large_buffer();
     let n = io::read_full(0, &mut list);
     for line in list[..n].split_inclusive(|byte| *byte == b'\n') {
-        // What stands behind the last byte 10 is no line.
+        // What follows the last byte 10 is no line.
         if let Some(line) = line.strip_suffix(b"\n") {
             reply(out, line)?;
         }

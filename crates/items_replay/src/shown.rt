@@ -80,7 +80,7 @@ impl fmt::Display for Shown<Relative> {
     }
 }
 
-// Nanoseconds behind what is written, unless they are 0.
+// Nanoseconds after what is written, unless they are 0.
 #[derive(Clone, Copy)]
 struct Nanoseconds(u32);
 

@@ -1,4 +1,4 @@
--- What the line program prints for one line: document 01, 'Packet and text'.
+-- What the line program prints for one line: docs/SCOPE.md, 'The line program'.
 use Rattle.answers.specs.Limits.{longest_text}
 use Rattle.std.specs.Prelude.{ℕ, List, [], ◌∷◌, ◌++◌, ltb, cond}
 use Rattle.answers.specs.Outcome.{Outcome, number}
@@ -8,11 +8,11 @@ use Rattle.writer.specs.Writer.{digits, written, bytes_of}
 pub use Rattle.line_ends.specs.Put.{Put}
 unfoldable pub use Rattle.line_ends.specs.Put.{put_at}
 
--- "number and place". A blank is 32, and byte 10 ends the line
+-- the number, a blank and the place of a refusal; a blank is 32, and byte 10 ends the line
 unfoldable pub refusal_line : ℕ → ℕ → List ℕ
 refusal_line n at = digits n ++ (32 ∷ (digits at ++ (10 ∷ [])))
 
--- "number 0 and the written record", `0` being 48; a record that can't be written is refused at place 0
+-- `0`, which is 48, a blank and the text of the record; a record that can't be written is refused at place 0
 unfoldable pub written_line : Outcome (List ℕ) → List ℕ
 written_line o = cond (ltb 0 (number o)) (refusal_line (number o) 0) (48 ∷ 32 ∷ (bytes_of o ++ (10 ∷ [])))
 

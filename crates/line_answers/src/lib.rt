@@ -74,7 +74,7 @@ fn put_refusal(refused: PlacedRefusal, out: &mut [u8; LONGEST_ANSWER]) -> usize
     put_byte(b'\n', out, at)
 }
 
-// One byte at a place of a slice; the answer is the place behind it.
+// One byte at a place of a slice; the answer is the place after it.
 fn put_byte(byte: u8, out: &mut [u8], at: usize) -> usize
     requires { at < length out.old }
     ensures { Put (byte ∷ []) at out.old result out.new }
@@ -83,7 +83,7 @@ fn put_byte(byte: u8, out: &mut [u8], at: usize) -> usize
     at + 1
 }
 
-// A number in as many digits as it needs, at a place of a slice; the answer is the place behind it.
+// A number in as many digits as it needs, at a place of a slice; the answer is the place after it.
 fn put_decimal(number: u64, out: &mut [u8], at: usize) -> usize
     requires { at + 20 ≤ length out.old }
     ensures upper_bound { result ≤ at + 20 }

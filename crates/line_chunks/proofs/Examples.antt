@@ -1,5 +1,5 @@
--- Document 01's example of the line program, computed: its lines, its answers, and its output from what its texts are read as. What they are
--- read as is tested by the run of crates/lines, since the calendar counts too far to be computed here. Assumes nothing.
+-- The example of docs/SCOPE.md, 'The line program', computed: its lines, its answers, and its output from what its texts are read as. What they
+-- are read as is tested by the run of crates/lines, since the calendar counts too far to be computed here. Assumes nothing.
 use Prim.Native.Nat.{ℕ}
 use mathlib.Core.Path.{◌≡◌, refl}
 use mathlib.Core.List.{List, [], ◌∷◌, ◌++◌}
@@ -33,7 +33,7 @@ pub four_lines : lines input ≡ base ∷ second ∷ third ∷ fourth ∷ []
 unfolding lines in_front bytes
 four_lines = refl
 
--- no byte 10 behind the last line, an empty line, and nothing
+-- no byte 10 after the last line, an empty line, and nothing
 pub ends : (lines (49 ∷ 10 ∷ 50 ∷ []) ≡ (49 ∷ []) ∷ (50 ∷ []) ∷ []) × (lines (10 ∷ 10 ∷ []) ≡ [] ∷ [] ∷ []) × (lines [] ≡ [])
 unfolding lines in_front
 ends = (refl, refl, refl)
@@ -60,7 +60,7 @@ pub three_answers : (line_answer (fine saturday) ≡ saturday_line) × (line_ans
 unfolding line_answer written_line refusal_line written make leap month_days test_date test_time test_offset test bytes fixed width_up_to width digits padded text_of
 three_answers = (refl, refl, refl)
 
--- "seam": a record whose offset is not whole minutes
+-- seam: a record whose offset is not whole minutes
 pub unwritten : line_answer (fine (make (date 2024 3 13) (time 9 30 0 0) (pos 30))) ≡ bytes "20 0" ++ (10 ∷ [])
 unfolding line_answer written_line refusal_line written make leap month_days test_date test_time test_offset test bytes fixed width_up_to width digits padded text_of
 unwritten = refl
@@ -69,7 +69,7 @@ pub whole_output : read_text base epoch ≡ fine wednesday → read_text second 
 unfolding output output_of under_base answers
 whole_output a b c d = rw (four_lines, a, b, c, d, three_answers.0, three_answers.1, three_answers.2)
 
--- "a refused base prints that and ends"; "Input without a line 1 prints nothing."
+-- a refused base prints its number and place, and ends the program; without a line 1 nothing is printed
 pub refused_base : (rest : List ℕ) (n at : ℕ) → read_text third epoch ≡ refusal n at → output_of (third ∷ rest ∷ []) ≡ refusal_line n at
 unfolding output_of under_base
 refused_base rest n at e = rw e

@@ -1,4 +1,4 @@
--- The lines of an input: document 01, 'Packet and text'.
+-- The lines of an input: docs/SCOPE.md, 'The line program'.
 use Rattle.std.specs.Prelude.{ℕ, suc, ◌+◌, ◌-◌, List, [], ◌∷◌, ◌++◌, ltb, eqb, length, take, drop, cond}
 use Rattle.answers.specs.Limits.{max_length}
 
@@ -7,12 +7,12 @@ unfoldable pub in_front : ℕ → List (List ℕ) → List (List ℕ)
 in_front b [] = (b ∷ []) ∷ []
 in_front b (line ∷ later) = (b ∷ line) ∷ later
 
--- "Byte 10 ends a line; nothing behind the last one is no line."
+-- Byte 10 ends a line. Bytes after the last byte 10 are a line too; if there are none, there is no such line.
 unfoldable pub lines : List ℕ → List (List ℕ)
 lines [] = []
 lines (b ∷ input) = cond (eqb b 10) ([] ∷ lines input) (in_front b (lines input))
 
--- how many bytes the first line has: those in front of the first byte 10, or all of them
+-- how many bytes the first line has: those before the first byte 10, or all of them
 unfoldable pub line_length : List ℕ → ℕ
 line_length [] = 0
 line_length (b ∷ input) = cond (eqb b 10) 0 (suc (line_length input))
@@ -32,6 +32,7 @@ unfoldable pub unlines : List (List ℕ) → List ℕ
 unlines [] = []
 unlines (line ∷ later) = line ++ (10 ∷ unlines later)
 
--- what is kept of a line that has not ended, from one place to another: no more than one byte above the longest text; nothing where there are no such places
+-- what is kept of a line that has not ended, from one place to another: at most one byte more than the longest text; nothing where there are
+-- no such places
 unfoldable pub kept : List ℕ → ℕ → ℕ → List ℕ
 kept buffer from end = cond (ltb (length buffer) end) [] (take (max_length + 1) (take (end - from) (drop from buffer)))

@@ -5,7 +5,7 @@ use Rattle.std.specs.Prelude.{ℕ, ◌+◌, ◌≡◌, List, ◌++◌, length, t
 unfoldable pub put_at : List ℕ → ℕ → List ℕ → List ℕ
 put_at text at out = take at out ++ (text ++ drop (at + length text) out)
 
--- a step that puts a text at a place, answers the place behind it, and leaves the other bytes
+-- a step that puts a text at a place, answers the place after it, and leaves the other bytes
 pub record Put (text : List ℕ) (at : ℕ) (out : List ℕ) (next : ℕ) (result : List ℕ) : Type 0 where
   pub place : next ≡ at + length text
   pub bytes : result ≡ put_at text at out

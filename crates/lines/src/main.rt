@@ -2,9 +2,8 @@
 // under the base, and its answer is written to standard output as one line: number 0 and the written record, or number and place. A
 // refused base is answered so too, and ends the program.
 //
-// Byte 10 ends a line; bytes behind the last one are a line as well. The program holds two buffers of 65536 bytes, and of a line that has
-// not ended no more than 4097 bytes: enough to refuse it. What is answered is written before the next read. A write that fails ends the
-// program.
+// Byte 10 ends a line; bytes after the last one are a line too. The program has two buffers of 65536 bytes, and of a line that has not
+// ended it keeps at most 4097 bytes: enough to refuse it. Answers are written before the next read. A write that fails ends the program.
 
 #![tactic(auto)]
 
@@ -87,7 +86,7 @@ impl Program {
         }
     }
 
-    // Keeps the line that has not ended, at the front, and reads behind it. A read that fails counts as the end of the input, which ends
+    // Keeps the line that has not ended, at the front, and reads after it. A read that fails counts as the end of the input, which ends
     // the line.
     fn read_on(&mut self) -> Option<()> {
         if !self.more {

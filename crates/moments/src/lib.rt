@@ -116,7 +116,7 @@ fn days(dt: ExtendedDateTime) -> u64
     calendar::days_from_civil(dt.year, dt.month, dt.day)
 }
 
-// The record whose own clock is `clock` seconds past 0000-01-01 00:00:00.
+// The record whose own clock is `clock` seconds after 0000-01-01 00:00:00.
 #[tactic(auto, unfolding(extended::specs::Extended::from_clock, extended::specs::Extended::clock_record))]
 fn from_clock(clock: u64, nanosecond: u32, offset_seconds: i32) -> Result<ExtendedDateTime, Refusal>
     ensures { outcome_of result ≡ from_clock clock nanosecond offset_seconds }
@@ -149,7 +149,7 @@ fn carry(unix: i64, nanosecond: u32, offset_seconds: i32) -> Result<ExtendedDate
     from_unix_seconds(next, nanosecond - 1000000000, offset_seconds)
 }
 
-// The moment of a clock that stands at an offset.
+// The moment of a clock at an offset.
 fn since_epoch(clock: u64, offset_seconds: i32) -> i64
     requires { clock < 4611686018427387904 }
     ensures { result ≡ pos clock -ℤ offset_seconds -ℤ pos 62167219200 }

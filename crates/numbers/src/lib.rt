@@ -28,7 +28,7 @@ pub fn parse_uint(digits: &[u8], max: u64) -> Option<u64>
     Some(acc)
 }
 
-// The same where a byte holds the limit.
+// The same for a limit that is a byte.
 pub fn parse_u8(digits: &[u8], max: u8) -> Option<u8>
     ensures { (text : List ℕ) (at : ℕ) → found_at at result ≡ parse_uint max (lowered digits.now) text at }
 {
@@ -63,7 +63,7 @@ pub(crate) fn dec_uint(s: &[u8], at: usize, max: u64) -> Option<(u64, usize)>
     number_of(at, usize::max(at, s.len()), acc)
 }
 
-// The number n from `at` up to `end`, if anything stands there.
+// The number n from `at` up to `end`, if there is any byte between them.
 fn number_of(at: usize, end: usize, n: u64) -> Option<(u64, usize)>
     ensures { answer_of result ≡ cond (ltb at end) (matched n end) none }
 {
@@ -79,7 +79,7 @@ fn long_uint(s: &[u8], at: usize, max: u64) -> Option<(u64, usize)>
     Some((parse_uint(digits, max)?, end))
 }
 
-// Of `dec_u8` and `dec_u32` a generic one would take a type and a limit that has to fit it: no plainer than two casts.
+// A generic function in place of `dec_u8` and `dec_u32` would take a type and a limit that fits it: no plainer than two casts.
 fn dec_u8(s: &[u8], at: usize) -> Option<(u8, usize)>
     ensures { answer_of result ≡ dec_uint 255 (lowered s.now) at }
 {
@@ -101,14 +101,14 @@ pub fn dec_u64(s: &[u8], at: usize) -> Option<(u64, usize)>
     dec_uint(s, at, 999999999999999999).or_else(|| long_uint(s, at, 18446744073709551615))
 }
 
-// A number behind space.
+// A number after space.
 pub fn spaced_u8(s: &[u8], at: usize) -> Option<(u8, usize)>
     ensures { answer_of result ≡ spaced (dec_uint 255) (lowered s.now) at }
 {
     dec_u8(s, spaces::space(s, at))
 }
 
-// A number behind space that fits an i32, with the sign that was read before it.
+// A number after space that fits an i32, with the sign that was read before it.
 #[tactic(auto, unfolding(primitive::specs::Ordinal::signed_number))]
 pub fn signed_number(s: &[u8], at: usize, negative: bool) -> Option<(i32, usize)>
     ensures { answer_of result ≡ signed_number negative (lowered s.now) at }

@@ -16,7 +16,7 @@ ghost use Rattle.times.specs.Offset.{without, offset_of, digits_offset, signed_f
 use primitive::Miss;
 use times::offset::Offset;
 
-// The correction that follows a time of day. A unit of time behind it changes nothing: `12:00 +3 hours` is 12:00 at +03:00, and `hours`.
+// The correction that follows a time of day. A unit of time after it changes nothing: `12:00 +3 hours` is 12:00 at +03:00, and `hours`.
 // A number with a fraction is no correction: `12:00 +1.5 seconds`.
 #[tactic(auto, using(times::proofs::Offsets::offsets), unfolding(times::specs::Offset::time_zone_correction))]
 pub fn time_zone_correction(s: &[u8], at: usize) -> Result<(Offset, usize), Miss>
@@ -51,8 +51,8 @@ fn signed_fraction(s: &[u8], at: usize) -> Option<(u32, usize, bool)>
     epoch::fraction(s, at)
 }
 
-// An offset, unless a relative item stands there: `+8 years` is no offset. The relative item is looked for only where there is an
-// offset, or one out of range.
+// An offset, unless a relative item is there: `+8 years` is no offset. The relative item is looked for only where there is an offset,
+// or one out of range.
 #[tactic(auto, using(times::proofs::Offsets::offsets), unfolding(times::specs::Offset::timezone_offset))]
 pub fn timezone_offset(s: &[u8], start: usize) -> Result<(Offset, usize), Miss>
     ensures { stop_answer result ≡ timezone_offset (lowered s.now) start }

@@ -1,4 +1,4 @@
--- A packet read under a base: document 01, 'Packet and text'.
+-- A packet read under a base: docs/SCOPE.md, 'The packet'.
 use Rattle.answers.specs.Numbers as refusal
 use Rattle.answers.specs.Limits.{most_items}
 use Rattle.std.specs.Prelude.{ℕ, zero, suc, ◌+◌, ◌*◌, Bool, List, [], ◌∷◌, leb, eqb, length, drop}
@@ -12,7 +12,7 @@ use Rattle.answers.specs.Placed.{Placed, fine, placed, ◌>>=◌, ◌>>◌}
 use Rattle.builder.specs.Building.{build}
 use Rattle.packet_fields.specs.Fields.{little, fields_at, unpacked, digits_used}
 
--- ---- header: "item count, offset of items (8), digit count, offset of digits (8 + 28 × items), u16 each"
+-- ---- header: item count, place of the items (8), digit count, place of the digits (8 + 28 × item count), two bytes each
 
 unfoldable pub count : List ℕ → ℕ
 count bytes = little 2 0 bytes
@@ -20,7 +20,7 @@ count bytes = little 2 0 bytes
 unfoldable pub digits_place : ℕ → ℕ
 digits_place n = 8 + 28 * n
 
--- "Under 8 bytes is 5, then the count, then the other header fields"; the digits stand "to its exact end"
+-- The tests, in order: under 8 bytes, the item count, the other fields of the header. The digits end the packet exactly.
 unfoldable pub header : List ℕ → Outcome (Unit {0})
 header bytes =
     outcome.◌>>◌ (check (leb 8 (length bytes)) refusal.packet)
@@ -28,22 +28,22 @@ header bytes =
     (outcome.◌>>◌ (check (eqb (little 2 2 bytes) 8) refusal.packet)
     (outcome.◌>>◌ (check (eqb (little 2 6 bytes) (digits_place (count bytes))) refusal.packet) (check (eqb (length bytes) (digits_place (count bytes) + little 2 4 bytes)) refusal.packet))))
 
--- the digit area, seen as the readers of digits see a text
+-- the digits, in lower case as the readers see a text
 unfoldable pub digits : List ℕ → List ℕ
 digits bytes = lowered (drop (digits_place (count bytes)) bytes)
 
 -- ---- items
 
--- "bytes 48 to 57": whether so many digits stand at a place
+-- whether so many digits, bytes 48 to 57, follow from a place on
 unfoldable pub digits_stand : List ℕ → ℕ → ℕ → Bool
 digits_stand area from n = leb (from + n) (past digit area from)
 
--- the item of an index, behind items that used up so many digits
+-- the item of an index, after items that used up so many digits
 unfoldable pub item_at : List ℕ → List ℕ → ℕ → ℕ → Outcome Item
 item_at bytes area i used =
     outcome.◌>>=◌ (unpacked (fields_at bytes i) used) (λ x. outcome.◌>>◌ (check (digits_stand area used (digits_used x)) refusal.packet) (accepted x))
 
--- "then items in order, then leftover digits": n items from the index i on. "5 for digits left over: the item count"
+-- n items from the index i on, in order, and then no digits left over: 5, at the item count
 unfoldable pub items_from : List ℕ → List ℕ → ℕ → ℕ → ℕ → Placed (List Item)
 items_from bytes area zero i used = do
   placed i (check (leb (length area) used) refusal.packet)
@@ -53,7 +53,7 @@ items_from bytes area (suc n) i used = do
   xs ← items_from bytes area n (suc i) (used + digits_used x)
   fine (x ∷ xs)
 
--- "then builder rules", and the building
+-- then the rules, and then the building
 unfoldable pub build_items : List ℕ → List ℕ → ℕ → ExtendedDateTime → Placed ExtendedDateTime
 build_items bytes area n base = do
   xs ← items_from bytes area n 0 0

@@ -1,7 +1,7 @@
 // The scheduler's packet: items that arrive already split, little-endian.
 //
 // - Header: the number of items, the place of the items (8), the number of digits and the place of the digits, 2 bytes each.
-// - Items of 28 bytes, as `packet_fields::Fields` has them, and the digits of the pure numbers, to the packet's end.
+// - Items of 28 bytes, as in `packet_fields::Fields`, then the digits of the pure numbers, to the packet's end.
 //
 // The items are read where they are: nothing is copied but the item at hand.
 
@@ -83,7 +83,7 @@ fn build_items(
     builder::build(gathered.builder, gathered.relatives.as_slice(), base)
 }
 
-// The item of an index, behind items that used up so many digits.
+// The item of an index, after items that used up so many digits.
 #[tactic(auto, unfolding(crate::specs::Packet::item_at))]
 fn next_item(packet: &[u8], index: usize, digits: &[u8], used: usize) -> Option<Item>
     requires index_bound { index < 64 }
@@ -99,7 +99,7 @@ fn next_item(packet: &[u8], index: usize, digits: &[u8], used: usize) -> Option<
     None
 }
 
-// Whether so many digits stand at a place.
+// Whether so many digits follow from a place on.
 #[tactic(auto, unfolding(crate::specs::Packet::digits_stand))]
 fn digits_stand(digits: &[u8], from: usize, count: usize) -> bool
     requires from_in_bounds { from ≤ length digits.now }

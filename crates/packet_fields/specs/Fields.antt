@@ -1,4 +1,4 @@
--- The 28 bytes of a packet's item: document 01, 'Packet and text'.
+-- The 28 bytes of a packet's item: docs/SCOPE.md, 'The packet'.
 use Rattle.answers.specs.Numbers as refusal
 use Rattle.answers.specs.Limits.{last_year}
 use Rattle.std.specs.Prelude.{Option, Some, None, cond}
@@ -22,7 +22,7 @@ use Rattle.packet_fields.specs.declared.Fields.{Fields}
 
 -- ---- numbers
 
--- "little-endian": the number in n bytes from a place on; behind the end stand zeros
+-- the number in n bytes from a place on, little-endian; bytes after the end read as 0
 unfoldable pub little : ℕ → ℕ → List ℕ → ℕ
 little zero at bytes = 0
 little (suc n) at bytes = get_or bytes at 0 + 256 * little n (suc at) bytes
@@ -37,18 +37,18 @@ twos_complement (negsuc n) = 2 ^ 64 - 1 - n
 
 -- ---- fields
 
--- "Item: 0 kind .. 1 weekday from Monday 0, or unit 1 years to 6 seconds; 2 month; 3 day; 4-7 year; 8 hour; 9 minute; 10 second; 11 flags ..
--- 12-15 nanosecond; 16 offset hours; 17 offset minutes; 18-19 pure length; 20-27 signed amount."
+-- SCOPE, 'Layout': 0 kind, 1 weekday or unit, 2 month, 3 day, 4-7 year, 8 hour, 9 minute, 10 second, 11 flags, 12-15 nanosecond, 16 hours and
+-- 17 minutes of the offset, 18-19 length of the pure number, 20-27 signed amount
 unfoldable pub fields_from : List ℕ → ℕ → Fields
 fields_from bytes at = record { kind = get_or bytes at 0; which = get_or bytes (at + 1) 0; month = get_or bytes (at + 2) 0; day = get_or bytes (at + 3) 0; year = little 4 (at + 4) bytes; hour = get_or bytes (at + 8) 0; minute = get_or bytes (at + 9) 0; second = get_or bytes (at + 10) 0; flags = get_or bytes (at + 11) 0; nanosecond = little 4 (at + 12) bytes; offset_hours = get_or bytes (at + 16) 0; offset_minutes = get_or bytes (at + 17) 0; length = little 2 (at + 18) bytes; amount = little 8 (at + 20) bytes }
 
--- "items of 28 bytes" behind a header of 8
+-- items of 28 bytes, after a header of 8
 abbrev pub fields_at : List ℕ → ℕ → Fields
 fields_at bytes i = fields_from bytes (8 + 28 * i)
 
 -- ---- the item that fields are
 
--- "11 flags (1 year given, 2 time offset given, 4 offset negative)"
+-- whether a flag is set: 1 year given, 2 time has an offset, 4 offset negative
 abbrev pub flagged : ℕ → ℕ → Bool
 flagged bit flags = eqb (flags / bit % 2) 1
 
@@ -67,14 +67,14 @@ time_offset_of f = cond (flagged 2 f.flags) (Some (offset_of f)) None
 unfoldable pub time_of : Fields → Time
 time_of f = record { hour = f.hour; minute = f.minute; second = f.second; nanosecond = f.nanosecond; offset = time_offset_of f }
 
--- "weekday from Monday 0"
+-- a weekday by its number, Monday 0; this definition has those from 4 on
 unfoldable pub later_day : ℕ → Outcome Day
 later_day n = cond (eqb n 4) (accepted day.Friday) (cond (eqb n 5) (accepted day.Saturday) (cond (eqb n 6) (accepted day.Sunday) (refused refusal.packet)))
 
 unfoldable pub day_of : ℕ → Outcome Day
 day_of n = cond (eqb n 0) (accepted day.Monday) (cond (eqb n 1) (accepted day.Tuesday) (cond (eqb n 2) (accepted day.Wednesday) (cond (eqb n 3) (accepted day.Thursday) (later_day n))))
 
--- "amounts are i32 but for seconds"
+-- an amount in an i32, as all but those of seconds
 unfoldable pub small : ℕ → Outcome ℤ
 small n = do
   check (in_i32 (from_twos_complement n)) refusal.packet
@@ -86,7 +86,7 @@ weekday_of f = do
   d ← day_of f.which
   accepted (item.Weekday (record { offset = n; day = d }))
 
--- "unit 1 years to 6 seconds"
+-- a unit by its number, from 1 years to 6 seconds; this definition has hours and minutes
 unfoldable pub later_unit : ℕ → ℤ → Outcome Item
 later_unit unit n = cond (eqb unit 4) (accepted (item.Relative (relative.Hours n))) (cond (eqb unit 5) (accepted (item.Relative (relative.Minutes n))) (refused refusal.packet))
 
@@ -98,7 +98,8 @@ unit_of unit n =
 unfoldable pub relative_of : Fields → Outcome Item
 relative_of f = cond (eqb f.which 6) (accepted (item.Relative (relative.Seconds (from_twos_complement f.amount) f.nanosecond))) (small f.amount >>= unit_of f.which)
 
--- "0 kind (1 date, 2 time, 3 both, 4 weekday, 5 zone, 6 local zone, 7 relative, 8 pure)". The digits of a pure number stand behind those that are used.
+-- An item by its kind: 1 date, 2 time, 3 both, 4 weekday, 5 zone, 6 local zone, 7 relative, 8 pure; this definition has those from 5 on. The
+-- digits of a pure number come after those that are used.
 unfoldable pub later_kind : Fields → ℕ → Outcome Item
 later_kind f used =
     cond (eqb f.kind 5) (accepted (item.Offset (offset_of f))) (cond (eqb f.kind 6) (accepted item.LocalZone)
@@ -109,9 +110,9 @@ item_of f used =
     cond (eqb f.kind 1) (accepted (item.Date (date_of f))) (cond (eqb f.kind 2) (accepted (item.Time (time_of f)))
     (cond (eqb f.kind 3) (accepted (item.DateTime (record { date = date_of f; time = time_of f }))) (cond (eqb f.kind 4) (weekday_of f) (later_kind f used))))
 
--- ---- ranges: "Ranges are those of the Rust's `TryFrom`"
+-- ---- ranges: SCOPE, 'Ranges'
 
--- "A year above 2147485547 in an item is 5." A date without year may be 29 February.
+-- A year is at most 2147485547. A date without year may be 29 February.
 unfoldable pub date_in_range : Option ℕ → ℕ → ℕ → Bool
 date_in_range (Some y) m d = leb y last_year && exists y m d
 date_in_range None m d = exists 2000 m d
@@ -123,11 +124,11 @@ offset_in_range None = true
 unfoldable pub time_in_range : Time → Bool
 time_in_range t = leb t.hour 23 && (leb t.minute 59 && (leb t.second 59 && (leb t.nanosecond 999999999 && offset_in_range t.offset)))
 
--- "zone hours reach 47 with minutes to 60"
+-- zone hours go to 47, with minutes to 60
 unfoldable pub zone_in_range : Offset → Bool
 zone_in_range o = leb o.hours 47 && leb o.minutes 60
 
--- "Pure items have 1 to 255 digits"
+-- a pure number has 1 to 255 digits
 unfoldable pub pure_in_range : Pure → Bool
 pure_in_range p = leb 1 p.length && leb p.length 255
 
@@ -141,7 +142,7 @@ in_range item.LocalZone = true
 in_range (item.Relative r) = true
 in_range (item.Pure p) = pure_in_range p
 
--- ---- the fields of an item: "Unused fields and flag bits are 0, flag 4 too in a time without flag 2."
+-- ---- the fields of an item. Every field and flag that it does not use is 0, flag 4 of a time without flag 2 among them.
 
 -- no field but kind, unit or weekday, amount and nanosecond
 abbrev pub counted : ℕ → ℕ → ℕ → ℕ → Fields
@@ -218,7 +219,7 @@ same_later a b = same_time a b && same_rest a b
 unfoldable pub same : Fields → Fields → Bool
 same a b = same_date a b && same_later a b
 
--- fields are those of an item in range, or of none
+-- the item, if it is in range and these are its fields
 unfoldable pub fitting : Fields → Item → Outcome Item
 fitting f x = do
   check (in_range x) refusal.packet
@@ -230,7 +231,7 @@ unpacked f used = do
   x ← item_of f used
   fitting f x
 
--- "Pure items .. use up the digit area in order"
+-- how many digits an item uses up; pure numbers take them in order
 abbrev pub digits_used : Item → ℕ
 digits_used (item.Pure p) = p.length
 digits_used (item.Date d) = 0

@@ -43,7 +43,7 @@ pub mod unit {
     pub const SECONDS: u8 = 6;
 }
 
-// The bits of `flags`: a date has a year, a time an offset, and an offset lies west of UTC.
+// The bits of `flags`: a date has a year, a time has an offset, an offset is west of UTC.
 pub mod flag {
     pub const YEAR: u8 = 1;
 
@@ -70,20 +70,20 @@ pub struct Fields {
     pub offset_minutes: u8,
     // How many digits a pure number has.
     pub length: u16,
-    // As the bytes have it, without a sign.
+    // As in the bytes, without a sign.
     pub amount: u64,
 }
 
 // ---- bytes
 
-// A byte, and 0 behind the last.
+// A byte, and 0 after the last.
 fn byte_at(bytes: &[u8], at: usize) -> u8
     ensures { result ≡ get_or bytes.now at 0 }
 {
     bytes.get(at).copied().unwrap_or(0)
 }
 
-// N bytes from a place on, each 0 behind the last.
+// N bytes from a place on, each 0 after the last.
 fn row<const N: usize>(bytes: &[u8], at: usize) -> [u8; N]
     requires { at + N < 1099511627780 }
     ensures { (i : ℕ) → i < N → get_or result i 0 ≡ get_or bytes.now (at + i) 0 }
@@ -113,7 +113,7 @@ pub fn twos_complement(n: i64) -> u64
     n.cast_unsigned()
 }
 
-// The signed number, where an i32 holds it.
+// The signed number, if an i32 can represent it.
 #[tactic(auto, unfolding(crate::specs::Fields::small))]
 pub fn as_small(n: u64) -> Option<i32>
     ensures { found_of result ≡ small n }

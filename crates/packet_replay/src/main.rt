@@ -1,6 +1,6 @@
 // Replays packets: reads a list of them from standard input and writes the answer to each as one line, in the line program's form. The base is
-// Wednesday 2024-03-13 09:30:00 at offset 0. The expected lines in `stdout` were derived by hand from the text of document 01, so a reader
-// that departs from them fails the gate.
+// Wednesday 2024-03-13 09:30:00 at offset 0. The expected lines in `stdout` were derived by hand from what docs/SCOPE.md promises ('The
+// packet', 'Rules and building'), so a reader that departs from them fails the gate.
 //
 // A line is a packet in hexadecimal, two digits a byte, a tab, and the reason why it is in the list, which is skipped; a byte in front of the
 // tab that is no such digit is skipped too. A line without a tab is a heading and is written as it is. The list has room for 65536 bytes, a
@@ -74,7 +74,7 @@ fn replay(out: &mut Stdout) -> std::io::Result<()> {
     let mut list = io::large_buffer();
     let n = io::read_full(0, &mut list);
     for line in list[..n].split_inclusive(|byte| *byte == b'\n') {
-        // What stands behind the last byte 10 is no line.
+        // What follows the last byte 10 is no line.
         if let Some(line) = line.strip_suffix(b"\n") {
             reply(out, line)?;
         }

@@ -1,5 +1,5 @@
--- What a reader answers, and how readers are put together. Document 01, 'Forms that must change': a reader answers a match
--- with the next place, no match, or a stop. docs/requests/02-long-fractions.md: a match says whether a fraction lost a digit.
+-- What a reader answers, and how readers are put together. docs/SCOPE.md, 'Readers': a reader answers a match with its value and the next
+-- place, no match, or a stop. A match also says whether a fraction lost a digit.
 use Rattle.std.specs.Prelude.{ℕ, List, Bool, true, false, Option, Some, None, Result, Ok, Err, cond}
 use Rattle.primitive.specs.declared.Miss.{Miss}
 use Rattle.primitive.specs.declared.Miss.TheVariants.{NoMatch, Stop}
@@ -16,7 +16,7 @@ pub data Answer (A : Type 0) : Type 0 where
 abbrev pub Reader : Type 0 → Type 0
 Reader A = List ℕ → ℕ → Answer A
 
--- an answer after a lost digit: of a match the loss is kept, and nothing else remembers it
+-- an answer after a lost digit: a match keeps the loss, any other answer forgets it
 abbrev pub drops : {A : Type 0} → Answer A → Answer A
 drops (matched v n) = dropped v n
 drops (dropped v n) = dropped v n
@@ -42,7 +42,7 @@ or_else (dropped v n) b = dropped v n
 or_else none b = b
 or_else stop b = stop
 
--- one reader, and behind it another that may ask what the first one found: what `do` is written with
+-- one reader, and after it another that may ask what the first one found: what `do` is written with
 infixl 20 ◌>>=◌ ◌>>◌
 abbrev pub ◌>>=◌ : {A B : Type 0} → Reader A → (A → Reader B) → Reader B
 ◌>>=◌ p f text at = and_then (p text at) (λ v n. f v text n)
@@ -92,7 +92,7 @@ abbrev pub found_at : {A : Type 0} → ℕ → Option A → Answer A
 found_at at (Some v) = matched v at
 found_at at None = none
 
--- a value and where it ends, where a stop can be met
+-- a value and where it ends, for a reader that may stop
 abbrev pub stop_answer : {A : Type 0} → Result (A × ℕ) Miss → Answer A
 stop_answer (Ok p) = matched p.0 p.1
 stop_answer (Err NoMatch) = none
@@ -103,7 +103,7 @@ abbrev pub lossy_answer : {A : Type 0} → Option (A × ℕ × Bool) → Answer 
 lossy_answer (Some p) = carry p.2 (matched p.0 p.1)
 lossy_answer None = none
 
--- the same where a stop can be met
+-- the same for a reader that may stop
 abbrev pub lossy_stop_answer : {A : Type 0} → Result (A × ℕ × Bool) Miss → Answer A
 lossy_stop_answer (Ok p) = carry p.2 (matched p.0 p.1)
 lossy_stop_answer (Err NoMatch) = none

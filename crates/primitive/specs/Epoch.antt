@@ -34,7 +34,7 @@ fraction = do
   ds ← dec_uint_str
   cut (lost ds) (nanoseconds ds)
 
--- 29.9: "The number can contain an internal decimal point (either '.' or ',')". A point without a digit behind it is left unread.
+-- 29.9: "The number can contain an internal decimal point (either '.' or ',')". A point without a digit after it is left unread.
 unfoldable pub sec_and_nsec : Reader (SecAndNsec ℕ)
 sec_and_nsec = do
   sec ← dec_uint 18446744073709551615

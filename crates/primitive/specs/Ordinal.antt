@@ -22,7 +22,7 @@ text_ordinal = do
   w ← spaced alpha1
   named ordinals w
 
--- a number behind space, below 2 to the power 31, with the sign in front of it
+-- a number after space, below 2 to the power 31, with the sign that was read before it
 unfoldable pub signed_number : Bool → Reader ℤ
 signed_number negative = do
   n ← spaced (dec_uint 2147483647)

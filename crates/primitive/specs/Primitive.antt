@@ -1,5 +1,5 @@
--- What the readers of items are made of, in the order of items/primitive.rs: the space between tokens, numbers, signs; then
--- words that stand in a table.
+-- What the readers of items are made of, in the order of items/primitive.rs: the space between tokens, numbers, signs; then the words of a
+-- table.
 use Rattle.std.specs.Prelude.{ℕ, zero, suc, ◌+◌, ◌-◌, ◌*◌, ◌^◌, ◌≡◌, List, [], ◌∷◌, ◌++◌, Bool, true, false, ◌&&◌, length, get_or, drop, leb, eqb, Option, Some, None, cond}
 use Prim.Native.String.{String}
 use Rattle.primitive.specs.Answer.{Answer, Reader, matched, dropped, none, stop, ◌>>=◌, ◌>>◌, ◌<|>◌, value, verify}
@@ -15,7 +15,7 @@ multispace0 text at = matched tt (past blank text at)
 unfoldable pub multispace1 : Reader (List ℕ)
 multispace1 = some blank
 
--- The end of a comment, from inside it: behind the parenthesis that closes it, with d comments open within it.
+-- The end of a comment, from inside it: after the parenthesis that closes it, with d comments open within it.
 -- `(` is 40 and `)` is 41.
 unfoldable pub closing : ℕ → List ℕ → ℕ → Answer (Unit {0})
 closing d [] at = none
@@ -42,7 +42,7 @@ pub data Nested : List ℕ → Type 0 where
   other : {b : ℕ} {bs : List ℕ} → (b ≡ 40 → ⊥) → (b ≡ 41 → ⊥) → Nested bs → Nested (b ∷ bs)
   inner : {w bs : List ℕ} → Nested w → Nested bs → Nested (40 ∷ (w ++ (41 ∷ bs)))
 
--- a place where no digit stands
+-- a place without a digit
 unfoldable pub no_digit : Reader (Unit {0})
 no_digit text at = cond (digit (get_or text at 0)) none (matched tt at)
 
@@ -50,15 +50,14 @@ no_digit text at = cond (digit (get_or text at 0)) none (matched tt at)
 unfoldable pub sign : Reader Bool
 sign = value false (char "+") <|> value true (char "-")
 
--- 29.1: "Hyphens not followed by a digit are currently ignored." Document 01, items/primitive.rs: so is a plus; a digit
--- behind blanks follows too.
+-- 29.1: "Hyphens not followed by a digit are currently ignored." SCOPE, 'Space': so is a plus, and blanks may come before the digit.
 unfoldable pub ignored_hyphen_or_plus : Reader (Unit {0})
 ignored_hyphen_or_plus = do
   sign
   multispace0
   no_digit
 
--- Document 01, items/primitive.rs: `space` skips blanks, comments, and such a sign
+-- SCOPE, 'Space': besides blanks, space is comments and such signs
 unfoldable pub ignored : Reader (Unit {0})
 ignored = comment <|> ignored_hyphen_or_plus
 
@@ -69,8 +68,8 @@ behind (dropped v n) at f = at
 behind none at f = at
 behind stop at f = at
 
--- comments and ignored signs, each with the blanks behind it, at most k of them; any k from the text's length on gives the
--- same place (proofs/Spaces.antt, `enough`)
+-- comments and ignored signs, each with the blanks after it, at most k of them; any k from the text's length on gives the same place
+-- (proofs/Spaces.antt, `enough`)
 unfoldable pub skip : ℕ → List ℕ → ℕ → ℕ
 skip zero text at = at
 skip (suc k) text at = behind (ignored text at) at (λ n. skip k text (past blank text n))
@@ -79,7 +78,7 @@ skip (suc k) text at = behind (ignored text at) at (λ n. skip k text (past blan
 unfoldable pub space : List ℕ → ℕ → ℕ
 space text at = skip (length text) text (past blank text at)
 
--- a reader behind space: the Rust's `s`
+-- a reader after space: the Rust's `s`
 abbrev pub spaced : {A : Type 0} → Reader A → Reader A
 spaced p text at = p text (space text at)
 
@@ -125,12 +124,12 @@ same [] (b ∷ bs) = false
 same (a ∷ as') [] = false
 same (a ∷ as') (b ∷ bs) = eqb a b && same as' bs
 
--- the value that a table gives a word; a word that the table does not have is no match
+-- the value that a table gives a word; a word that is not in the table is no match
 unfoldable pub named : {A : Type 0} → List (String × A) → List ℕ → Reader A
 named [] w text at = none
 named (e ∷ es) w text at = cond (same w (bytes e.0)) (matched e.1 at) (named es w text at)
 
--- the value that stands beside the first word that is w, the words being seen in lower case
+-- the value beside the first word whose lower case is w
 unfoldable pub beside : {A : Type 0} → List (List ℕ × A) → List ℕ → Option A
 beside [] w = None
 beside (e ∷ es) w = cond (same w (lowered e.0)) (Some e.1) (beside es w)

@@ -24,7 +24,7 @@ unfoldable pub bytes : String → List ℕ
 bytes empty = []
 bytes (then c cs) = code c ∷ bytes cs
 
--- Document 01, items/primitive.rs: blanks are bytes 9 to 13 and 32
+-- SCOPE, 'Space': blanks are the bytes 9 to 13 and 32
 unfoldable pub blank : ℕ → Bool
 blank b = eqb b 32 || (leb 9 b && leb b 13)
 
@@ -40,12 +40,12 @@ letter b = leb 97 b && leb b 122
 abbrev pub Tells : (ℕ → Bool → Type 0) → (ℕ → Bool) → Type 0
 Tells says p = (b : ℕ) (r : Bool) → b < 256 → says b r → r ≡ p (lower b)
 
--- how many bytes in front pass the test
+-- how many bytes at the front pass the test
 unfoldable pub run : (ℕ → Bool) → List ℕ → ℕ
 run p [] = 0
 run p (b ∷ bs) = cond (p b) (suc (run p bs)) 0
 
--- the place behind the bytes from `at` on that pass the test
+-- the place after the bytes from `at` on that pass the test
 unfoldable pub past : (ℕ → Bool) → List ℕ → ℕ → ℕ
 past p text at = at + run p (drop at text)
 
@@ -59,7 +59,7 @@ starts [] text = true
 starts (c ∷ cs) [] = false
 starts (c ∷ cs) (b ∷ bs) = eqb b c && starts cs bs
 
--- the bytes w, whatever stands behind them
+-- the bytes w, whatever follows them
 unfoldable pub tag : List ℕ → Reader (Unit {0})
 tag w text at = cond (starts w (drop at text)) (matched tt (at + length w)) none
 

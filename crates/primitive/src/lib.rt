@@ -18,11 +18,11 @@ ghost use Rattle.primitive.specs.Primitive.{multispace1, sign, dec_uint_str, alp
 pub enum Miss {
     // there is no such thing there: another reader may be tried
     NoMatch,
-    // what stands there is refused, whatever other readers would make of it
+    // what is there is refused, whatever other readers would make of it
     Stop,
 }
 
-// Seconds, of any size or below 60, and the nanoseconds behind them.
+// Seconds, of any size or below 60, and the nanoseconds after them.
 #[derive(Clone, Copy)]
 pub struct SecAndNsec<T> {
     pub sec: T,
@@ -153,7 +153,7 @@ pub fn sign(s: &[u8], at: usize) -> Option<(bool, usize)>
     plus.or_else(|| byte(s, at, b'-').map(|next| (true, next)))
 }
 
-// The bytes `w`, in lower case, whatever stands behind them.
+// The bytes `w`, in lower case, whatever follows them.
 #[tactic(auto, using(crate::proofs::Tags::tags))]
 pub fn tag(s: &[u8], at: usize, w: &[u8]) -> Option<usize>
     ensures { place_answer result ≡ tag w.now (lowered s.now) at }

@@ -1,4 +1,4 @@
--- Relative items, in the order of items/relative.rs. 29.7: "Relative items adjust a date (or the current date if none) forward or
+-- Relative items, in the order of items/relative.rs. 29.7: "'Relative items' adjust a date (or the current date if none) forward or
 -- backward."
 use Rattle.std.specs.Prelude.{ℕ, ◌+◌, ◌-◌, ◌^◌, List, [], ◌∷◌, Bool, true, false, not, ltb, eqb, ℤ, pos, neg_ℤ, ◌*ℤ◌, cond}
 use Prim.Native.String.{String}
@@ -15,13 +15,13 @@ use Rattle.relative.specs.declared.Relative.TheVariants.{Years, Months, Days, Ho
 -- ---- which way
 
 -- 29.7: "Following a relative item by the string 'ago' is equivalent to preceding the unit by a multiplier with value -1." The
--- manual does not name `hence`. Both are beginnings: in "agog" the `g` is left unread. True for `ago`.
+-- manual does not name `hence`. Both are read as beginnings: in `agog` the last `g` is left unread. True for `ago`.
 unfoldable pub direction : Reader Bool
 direction = optional false (value true (spaced (quoted "ago")) <|> value false (spaced (quoted "hence")))
 
 -- ---- seconds with a fraction
 
--- Document 01, items/relative.rs: `seconds` rounds down. True for minus.
+-- SCOPE, 'Relative items': `seconds` rounds down. True for minus.
 unfoldable pub rounded : Bool → SecAndNsec ℕ → Relative
 rounded false v = Seconds (pos v.sec) v.nsec
 rounded true v = cond (eqb v.nsec 0) (Seconds (signed true v.sec) 0) (Seconds (signed true (v.sec + 1)) (1000000000 - v.nsec))
@@ -51,7 +51,7 @@ seconds = do
 
 -- ---- units of time
 
--- n times k days, if an i32 holds them; else no match
+-- n times k days, if an i32 can represent them; else no match
 unfoldable pub days : ℕ → ℤ → Reader Relative
 days k n = verify (ltb (mag (n *ℤ pos k)) (2 ^ 31)) (Days (n *ℤ pos k))
 
@@ -83,13 +83,13 @@ displaced n = do
   in_unit (cond ago (neg_ℤ n) n) w
 
 -- 29.7: "The unit of time may be preceded by a multiplier, given as an optionally signed number. .. No number at all implies 1 for a
--- multiplier." 29.1: ordinal words too. An ordinal that was read is kept, whatever follows it.
+-- multiplier." 29.1 has ordinal words too. An ordinal that was read is kept, whatever follows it.
 unfoldable pub displacement : Reader Relative
 displacement = do
   n ← optional (pos 1) ordinal
   displaced n
 
--- Document 01, items/relative.rs: `seconds`, then `displacement`. The words 'tomorrow', 'yesterday', 'today' and 'now' of 29.7 are
--- outside its domain.
+-- SCOPE, 'Relative items': `seconds` is tried first, then `displacement`. The words 'tomorrow', 'yesterday', 'today' and 'now' of 29.7 are left
+-- unread (SCOPE, 'Domain and limits').
 unfoldable pub parse : Reader Relative
 parse = seconds <|> displacement

@@ -1,5 +1,5 @@
--- Which items may stand together: document 01, 'items/weekday.rs, items/builder.rs', and 29.1: "A date is a string, possibly empty,
--- containing many items separated by whitespace .. The order of the items is not important."
+-- Which items may be combined: docs/SCOPE.md, 'The rules' and 'Pure numbers'. 29.1: "A 'date' is a string, possibly empty, containing many
+-- items separated by whitespace. .. Order of the items is immaterial."
 use Rattle.answers.specs.Numbers as refusal
 use Rattle.std.specs.Prelude.{Option, Some, None, is_some, cond}
 use Rattle.rules.specs.declared.Zone.{Zone}
@@ -33,11 +33,11 @@ has_offset None = false
 abbrev pub empty : DateTimeBuilder
 empty = record { date = None; time = None; weekday = None; zone = None }
 
--- "The clock is set to midnight by a date, time or weekday, and by a zone item only where there is no relative item."
+-- SCOPE, 'Building': a date, a time or a weekday sets the clock to midnight, and a zone does where there is no relative item
 unfoldable pub need_midnight : DateTimeBuilder → Bool → Bool
 need_midnight b bare = is_some b.date || (is_some b.time || (is_some b.weekday || (is_some b.zone && bare)))
 
--- ---- one item more. 6: "date, time, weekday or zone again"
+-- ---- one item more; a second date, time, weekday or zone is 6
 
 abbrev pub with_date : DateTimeBuilder → Date → DateTimeBuilder
 with_date b d = record { date = Some d; time = b.time; weekday = b.weekday; zone = b.zone }
@@ -47,7 +47,7 @@ set_date b d = do
   check (not (is_some b.date)) refusal.twice
   accepted (with_date b d)
 
--- "A time with an offset after a zone item is 7"
+-- a time with an offset, after a zone, is 7
 unfoldable pub set_time : DateTimeBuilder → Time → Outcome DateTimeBuilder
 set_time b t = do
   check (not (is_some b.time)) refusal.twice
@@ -59,7 +59,7 @@ set_weekday b w = do
   check (not (is_some b.weekday)) refusal.twice
   accepted (record { date = b.date; time = b.time; weekday = Some w; zone = b.zone })
 
--- "a zone item after such a time is 6"
+-- a zone after a time with an offset is 6, as after another zone
 unfoldable pub set_zone : DateTimeBuilder → Option Zone → Outcome DateTimeBuilder
 set_zone b z = do
   check (not (is_some b.zone || has_offset b.time)) refusal.twice
@@ -82,7 +82,7 @@ wanted n stop = refused n
 abbrev pub date_of_year : Date → ℕ → Date
 date_of_year d y = record { day = d.day; month = d.month; year = Some y }
 
--- "A pure number after a date without year becomes the year": 9 for "a pure year no u32", or one past the last
+-- a pure number after a date without year becomes its year; 9 if it is above the last year, or if no u32 can represent it
 unfoldable pub set_pure_year : List ℕ → DateTimeBuilder → Date → ℕ → ℕ → Outcome DateTimeBuilder
 set_pure_year digits b d from to = do
   y ← wanted refusal.over (year_from_str (slice from to digits) digits to)
@@ -91,7 +91,7 @@ set_pure_year digits b d from to = do
 abbrev pub clock : ℕ → ℕ → Time
 clock h m = record { hour = h; minute = m; second = 0; nanosecond = 0; offset = None }
 
--- 8: "pure number no hour and minute"
+-- 8 for a pure number that is no hour and minute
 unfoldable pub set_hour : List ℕ → DateTimeBuilder → ℕ → ℕ → Outcome DateTimeBuilder
 set_hour digits b from to = do
   h ← wanted refusal.pure (parse_uint 23 (slice from to digits) digits to)
@@ -103,7 +103,7 @@ set_hour_and_minute digits b from middle to = do
   m ← wanted refusal.pure (parse_uint 59 (slice middle to digits) digits to)
   set_time b (clock h m)
 
--- "Otherwise it is an hour (1 or 2 digits) or hour and minute (3 or 4)."
+-- any other pure number is an hour (one or two digits) or an hour and a minute (three or four)
 unfoldable pub set_pure_time : List ℕ → DateTimeBuilder → Pure → Outcome DateTimeBuilder
 set_pure_time digits b p = do
   check (leb 1 p.length) refusal.pure
@@ -124,7 +124,7 @@ set_pure digits b p = pure digits b p b.date
 
 -- ---- all items
 
--- A relative item may stand beside any other.
+-- A relative item may be combined with any other.
 unfoldable pub set_item : List ℕ → DateTimeBuilder → Item → Outcome DateTimeBuilder
 set_item digits b (item.DateTime v) = set_date_time b v
 set_item digits b (item.Date d) = set_date b d
@@ -139,7 +139,7 @@ set_item digits b (item.Pure p) = set_pure digits b p
 unfoldable pub rule_place : ℕ → ℕ → ℕ
 rule_place n i = cond (eqb n refusal.over) 0 i
 
--- The rules are tried in item order, of which the first has index i.
+-- The rules are tried in item order; the first item here has index i.
 abbrev pub onward : ℕ → Outcome DateTimeBuilder → (DateTimeBuilder → Placed DateTimeBuilder) → Placed DateTimeBuilder
 onward i (accepted b) f = f b
 onward i (refused n) f = refusal n (rule_place n i)
@@ -148,7 +148,7 @@ unfoldable pub gather : List ℕ → ℕ → DateTimeBuilder → List Item → P
 gather digits i b [] = fine b
 gather digits i b (x ∷ xs) = onward i (set_item digits b x) (λ next. gather digits (suc i) next xs)
 
--- the rules of one item more, of index i, behind those of the items before it
+-- the rules of one item more, of index i, after those of the items before it
 unfoldable pub add_item : List ℕ → ℕ → Item → Placed DateTimeBuilder → Placed DateTimeBuilder
 add_item digits i x p = placed.◌>>=◌ p (λ b. onward i (set_item digits b x) fine)
 

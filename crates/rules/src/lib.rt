@@ -1,4 +1,4 @@
-// Which items may stand together, as in items/builder.rs. `DateTimeBuilder` contains at most one item of each kind but the relative one, and
+// Which items may be combined, as in items/builder.rs. `DateTimeBuilder` contains at most one item of each kind but the relative one, and
 // goes by value. The loop over the items is in `gather`, which keeps the relative ones; building is in `builder`.
 
 #![tactic(auto)]

@@ -34,7 +34,7 @@ pub fn space(s: &[u8], at: usize) -> usize
     skip_space(s, at)
 }
 
-// Whether a sign stands there with a digit behind it, which is not ignored.
+// Whether there is a sign with a digit after it, which is not ignored.
 fn signed_digit(s: &[u8], at: usize) -> bool
     ensures { result ≡ true → at ≡ space (lowered s.now) at }
 {
@@ -83,7 +83,7 @@ fn ignored(s: &[u8], at: usize) -> Option<usize>
     comment(s, at).or_else(|| ignored_hyphen_or_plus(s, at))
 }
 
-// A hyphen or plus is ignored when no digit follows it, behind blanks too. In `- (comment) 12 weeks` a comment follows it.
+// A hyphen or plus is ignored when no digit follows it, after blanks too. In `- (comment) 12 weeks` a comment follows it.
 #[tactic(auto, using(primitive::proofs::Spaces::spaces), unfolding(primitive::specs::Primitive::ignored_hyphen_or_plus))]
 fn ignored_hyphen_or_plus(s: &[u8], at: usize) -> Option<usize>
     ensures { place_answer result ≡ ignored_hyphen_or_plus (lowered s.now) at }
@@ -118,14 +118,14 @@ fn comment(s: &[u8], at: usize) -> Option<usize>
     None
 }
 
-// One byte behind space.
+// One byte after space.
 pub fn spaced_byte(s: &[u8], at: usize, b: u8) -> Option<usize>
     ensures { place_answer result ≡ spaced (byte b) (lowered s.now) at }
 {
     primitive::byte(s, space(s, at), b)
 }
 
-// A hyphen behind space. One with a digit behind it, which is not ignored, is found at once.
+// A hyphen after space. One with a digit after it, which is not ignored, is found at once.
 #[tactic(auto, using(primitive::proofs::Spaces::spaces))]
 pub fn spaced_hyphen(s: &[u8], at: usize) -> Option<usize>
     ensures { place_answer result ≡ spaced (byte 45) (lowered s.now) at }
@@ -150,7 +150,7 @@ pub fn colon(s: &[u8], at: usize) -> Option<usize>
     spaced_byte(s, at, b':')
 }
 
-// A plus or minus, behind space.
+// A plus or minus, after space.
 #[tactic(auto, unfolding(primitive::specs::Primitive::plus_or_minus))]
 pub fn plus_or_minus(s: &[u8], at: usize) -> Option<(bool, usize)>
     ensures { answer_of result ≡ plus_or_minus (lowered s.now) at }
@@ -158,7 +158,7 @@ pub fn plus_or_minus(s: &[u8], at: usize) -> Option<(bool, usize)>
     primitive::sign(s, space(s, at))
 }
 
-// The bytes `w` behind space.
+// The bytes `w` after space.
 pub fn spaced_tag(s: &[u8], at: usize, w: &[u8]) -> Option<usize>
     ensures { place_answer result ≡ spaced (tag w.now) (lowered s.now) at }
 {

@@ -79,7 +79,7 @@ fn months_before(year: u32, month: u8) -> i64
     ((year as u64) * 12 + (month - 1) as u64) as i64
 }
 
-// The same day of another month, or its last day and as many days more as were lost.
+// The same day of another month, or its last day plus the days that were lost.
 #[tactic(auto, unfolding(extended::specs::Extended::clamp))]
 fn clamped(dt: ExtendedDateTime, year: u64, month: u8) -> Result<ExtendedDateTime, Refusal>
     ensures { outcome_of result ≡ clamp dt year month }

@@ -1,4 +1,4 @@
--- A text read under a base: document 01, 'Domain and limits' and 'Answers by number'.
+-- A text read under a base: docs/SCOPE.md, 'Domain and limits' and 'The order of tests'.
 use Rattle.answers.specs.Numbers as refusal
 use Rattle.answers.specs.Limits.{max_length}
 use Rattle.items.specs.declared.Item.{Item}
@@ -11,7 +11,7 @@ use Rattle.items.specs.Items.{Parsed, parse_items, rust_items}
 use Rattle.answers.specs.Placed.{Placed, fine, refusal, placed, ◌>>=◌, ◌>>◌}
 use Rattle.builder.specs.Building.{build}
 
--- "Text has 0 to 4096 bytes, each below 128, read as lower case"
+-- whether a byte is below 128
 unfoldable pub ascii : ℕ → Bool
 ascii b = ltb b 128
 
@@ -23,7 +23,7 @@ ascii_end text = past ascii text 0
 unfoldable pub items_of : Parsed → Placed (List Item)
 items_of p = cond (eqb p.number 0) (fine p.items) (refusal p.number p.place)
 
--- "items left to right; the builder's rules in item order; then building". No text has an item that comes by packet only.
+-- The items from left to right, the rules in item order, then the building. No text has an item that comes by packet only.
 unfoldable pub build_parsed : Parsed → ExtendedDateTime → Placed ExtendedDateTime
 build_parsed p base = do
   xs ← items_of p
@@ -32,7 +32,7 @@ build_parsed p base = do
 unfoldable pub build_text : List ℕ → ExtendedDateTime → Placed ExtendedDateTime
 build_text text base = build_parsed (parse_items text) base
 
--- "a record or base lent in, as `new` tests it; length; foreign bytes": 2 stands at the first foreign byte
+-- the base as `new` tests it, the length, the foreign bytes, of which the first is the place of 2; then the items
 unfoldable pub read_parsed : Parsed → List ℕ → ExtendedDateTime → Placed ExtendedDateTime
 read_parsed p text base = do
   placed 0 (test base)

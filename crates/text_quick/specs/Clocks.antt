@@ -27,7 +27,7 @@ pub record Ranges (h m s ns : ℕ) (z : Option Offset) : Type 0 where
   pub nanosecond : ns < 1000000000
   pub zone : zone_small z
 
--- a time behind an ISO date and its separator; the next place is behind the blanks that follow it
+-- a time after an ISO date and its separator; the next place is after the blanks that follow the time
 pub record Clock (text : List ℕ) (at h m s ns : ℕ) (z : Option Offset) (n : ℕ) : Type 0 where
   pub ranges : Ranges h m s ns z
   pub within : n ≤ length text
@@ -40,7 +40,7 @@ abbrev pub ClockAt : List ℕ → ℕ → Option (Time × ℕ) → Type 0
 ClockAt text at (Some p) = let t = p.0 in Clock text at t.hour t.minute t.second t.nanosecond t.offset p.1
 ClockAt text at None = Unit {0}
 
--- what stands behind the minutes, in l: the seconds, the offset, and blanks up to the next place
+-- what follows the minutes, in l: the seconds, the offset, and blanks up to the next place
 pub record BehindMinutes (text l : List ℕ) (s ns : ℕ) (z : Option Offset) (n : ℕ) : Type 0 where
   pub second : s < 60
   pub nanosecond : ns < 1000000000
@@ -58,14 +58,14 @@ abbrev pub SecondAt : List ℕ → ℕ → ℕ → ℕ → Option (Time × ℕ) 
 SecondAt text at hour minute (Some p) = let t = p.0 in (t.hour ≡ hour) × ((t.minute ≡ minute) × BehindMinutes text (drop at text) t.second t.nanosecond t.offset p.1)
 SecondAt text at hour minute None = Unit {0}
 
--- behind any digits of the second
+-- after any digits of the second
 abbrev pub ZoneAt : List ℕ → ℕ → ℕ → ℕ → ℕ → Option (Time × ℕ) → Type 0
 ZoneAt text at hour minute second (Some p) =
     let t = p.0 in
     (t.hour ≡ hour) × ((t.minute ≡ minute) × ((ds : List ℕ) → Number ds → decimal ds ≡ second → second < 60 → BehindMinutes text (58 ∷ (ds ++ drop at text)) t.second t.nanosecond t.offset p.1))
 ZoneAt text at hour minute second None = Unit {0}
 
--- a time with am or pm that ends the text, behind any blanks
+-- a time with am or pm that ends the text, after any blanks
 pub record HalfDay (text : List ℕ) (at h m s ns : ℕ) (z : Option Offset) (n : ℕ) : Type 0 where
   pub ranges : Ranges h m s ns z
   pub there : at < length text

@@ -18,7 +18,7 @@ use Rattle.text_quick.specs.Rows.{Digits}
 abbrev pub day_of : ℕ → ℕ → ℕ → Date
 day_of y m d = date_of (Some y) m d
 
--- `2024-03-13` in front of a text, if the month has the day; behind it no digit
+-- `2024-03-13` at the front of a text, if the month has the day; no digit follows
 pub record Iso (text : List ℕ) (y m d n : ℕ) : Type 0 where
   pub month_small : m < 100
   pub day_small : d < 100
@@ -31,7 +31,7 @@ abbrev pub IsoDate : List ℕ → Option (Civil ℕ × ℕ) → Type 0
 IsoDate text (Some p) = let t = p.0 in Iso text t.year t.month t.day p.1
 IsoDate text None = Unit {0}
 
--- another date in front of a text, if the month has the day; the next place is behind the blanks that follow it
+-- another date at the front of a text, if the month has the day; the next place is after the blanks that follow it
 pub record Other (text : List ℕ) (y m d n : ℕ) : Type 0 where
   pub month_small : m < 100
   pub day_small : d < 100
@@ -47,7 +47,7 @@ OtherDate text None = Unit {0}
 
 -- ---- the parts of these dates
 
--- a year of four digits, and the end of the text or a blank behind it
+-- a year of four digits, and after it the end of the text or a blank
 pub record EndedYear (text : List ℕ) (at y n : ℕ) : Type 0 where
   pub row : Digits text at (at + 4) y
   pub small : y ≤ 9999
@@ -70,7 +70,7 @@ abbrev pub UsDate : List ℕ → ℕ → ℕ → Option (Civil ℕ × ℕ) → T
 UsDate text at m (Some p) = let t = p.0 in (t.month ≡ m) × DayYear text at t.year t.day p.1
 UsDate text at m None = Unit {0}
 
--- the name of month k, and a blank behind it
+-- the name of month k, and a blank after it
 pub record Named (text : List ℕ) (at k to : ℕ) : Type 0 where
   pub month : Month (slice at to text) k
   pub small : k ≤ 12

@@ -22,7 +22,7 @@ abbrev pub RowAt : List ℕ → ℕ → ℕ → Option ℕ → Type 0
 RowAt text at n (Some v) = (v < 10 ^ n) × Digits text at (at + n) v
 RowAt text at n None = Unit {0}
 
--- a number of one digit or two, with a byte behind it that is no digit
+-- a number of one digit or two, with a byte after it that is no digit
 pub record Short (text : List ℕ) (at v n : ℕ) : Type 0 where
   pub row : Digits text at n v
   pub small : v < 100

@@ -32,7 +32,7 @@ pub data Fronts (x : Shape) : List Item → Type 0 where
   combined : Fronts x ((item.DateTime (record { date = day_of x.date.year x.date.month x.date.day; time = x.time })) ∷ [])
   apart : Fronts x (day_item x ∷ (item.Time (x.time)) ∷ [])
 
--- the items in front of a text, with nothing behind them or a relative item
+-- the items at the front of a text, and after them nothing or a relative item
 pub record Front (text : List ℕ) (x : Shape) : Type 0 where
   pub items : List Item
   pub fronts : Fronts x items
@@ -49,7 +49,7 @@ ShapeOf text None = Unit {0}
 abbrev pub at_midnight : Civil ℕ → ℕ → Shape
 at_midnight d n = record { date = d; time = midnight; next = n }
 
--- a blank or a `t`, with a byte behind it
+-- a blank or a `t`, with a byte after it
 pub record SeparatorAt (text : List ℕ) (at : ℕ) : Type 0 where
   pub with_t : Bool
   pub there : drop at text ≡ separator_of with_t ∷ drop (at + 1) text

@@ -26,7 +26,7 @@ relative_of unit.Hour n = relative.Hours n
 relative_of unit.Minute n = relative.Minutes n
 relative_of unit.Second n = relative.Seconds n 0
 
--- a relative item that ends the text, behind any blanks; with a blank in front it is no time behind a date
+-- a relative item that ends the text, after any blanks; with a blank before it, it is no time after a date
 pub record Shift (text : List ℕ) (at : ℕ) (v : Relative) : Type 0 where
   pub still : Still (drop at text)
   pub there : at < length text
@@ -39,7 +39,7 @@ ShiftAt text at None = Unit {0}
 
 -- ---- the parts
 
--- where the digits begin, with the byte b at the place: there, where b is no minus, or behind b, which is a sign
+-- where the digits begin, with the byte b at the place: there, if b is no minus, or after b, if b is a sign
 abbrev pub BehindSign : ℕ → ℕ → ℕ → Type 0
 BehindSign b at n = ((n ≡ at) × (eqb b 45 ≡ false)) ⊎ ((n ≡ at + 1) × (b ≡ sign_of (eqb b 45)))
 
@@ -53,7 +53,7 @@ word_of unit.Hour = bytes "hour"
 word_of unit.Minute = bytes "minute"
 word_of unit.Second = bytes "second"
 
--- fortnights are not read at once: of so many the days may be more than an i32 holds
+-- fortnights are not read at once: their days may be more than an i32 can represent
 abbrev pub Short : TimeUnit → Type 0
 Short unit.Fortnight = ⊥
 Short unit.Year = Unit {0}
@@ -84,7 +84,7 @@ pub record Plural (text : List ℕ) (at n : ℕ) : Type 0 where
   pub many : Bool
   pub written : drop at text ≡ plural many ++ drop n text
 
--- what stands behind a number
+-- what follows a number
 pub record Counted (text : List ℕ) (at : ℕ) (negative : Bool) (n : ℕ) (v : Relative) : Type 0 where
   pub small : n ≤ 300000000
   pub unit : TimeUnit

@@ -1,4 +1,4 @@
-// Times of day: behind a date `09:30`, `09:30:00` and `09:30:00.000000000+00:00`; as an item of its own `9:30 am`.
+// Times of day: after a date `09:30`, `09:30:00` and `09:30:00.000000000+00:00`; as an item of its own `9:30 am`.
 
 ghost use Rattle.primitive.specs.Text.{lowered};
 ghost use Rattle.text_quick.specs.Clocks.{ClockAt, SecondAt, ZoneAt, HalfDayAt};
@@ -7,7 +7,7 @@ use crate::rows;
 use times::offset::Offset;
 use times::time::Time;
 
-// A time, and the place behind it and a blank.
+// A time, and the place after it and a blank.
 pub(crate) fn clock(s: &[u8], at: usize) -> Option<(Time, usize)>
     ensures { ClockAt (lowered s.now) at result }
 {
@@ -36,7 +36,7 @@ pub(crate) fn clock(s: &[u8], at: usize) -> Option<(Time, usize)>
     second(s, next, hour, minute)
 }
 
-// The seconds behind hour and minute.
+// The seconds after hour and minute.
 fn second(s: &[u8], at: usize, hour: u8, minute: u8) -> Option<(Time, usize)>
     ensures { SecondAt (lowered s.now) at hour minute result }
 {
@@ -61,7 +61,7 @@ fn second(s: &[u8], at: usize, hour: u8, minute: u8) -> Option<(Time, usize)>
     fraction_and_zone(s, next, hour, minute, second)
 }
 
-// Nine digits of a fraction and the offset behind the seconds; then the end of the text, or a blank and a sign or a digit.
+// Nine digits of a fraction and the offset after the seconds; then the end of the text, or a blank and a sign or a digit.
 fn fraction_and_zone(s: &[u8], at: usize, hour: u8, minute: u8, second: u8) -> Option<(Time, usize)>
     ensures { ZoneAt (lowered s.now) at hour minute second result }
 {

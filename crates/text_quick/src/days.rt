@@ -35,7 +35,7 @@ pub(crate) fn number_date(s: &[u8]) -> Option<(DateParts, usize)>
     day_month_date(s, at + 1, first)
 }
 
-// The day and the year behind a month and a slash.
+// The day and the year after a month and a slash.
 fn us_date(s: &[u8], at: usize, month: u8) -> Option<(DateParts, usize)>
     ensures { UsDate (lowered s.now) at month result }
 {
@@ -46,7 +46,7 @@ fn us_date(s: &[u8], at: usize, month: u8) -> Option<(DateParts, usize)>
     year(s, at + 1, month, day)
 }
 
-// The month and the year behind a day and a blank.
+// The month and the year after a day and a blank.
 fn day_month_date(s: &[u8], at: usize, day: u8) -> Option<(DateParts, usize)>
     ensures { DayMonthDate (lowered s.now) at day result }
 {
@@ -67,7 +67,7 @@ pub(crate) fn name_date(s: &[u8]) -> Option<(DateParts, usize)>
     year(s, next + 1, month, day)
 }
 
-// A year of four digits, and the end of the text or a blank with another byte behind it. The answer has the month and the day that were
+// A year of four digits, and the end of the text or a blank with another byte after it. The answer has the month and the day that were
 // read before it.
 fn year(s: &[u8], at: usize, month: u8, day: u8) -> Option<(DateParts, usize)>
     ensures { YearAt (lowered s.now) at month day result }
@@ -87,7 +87,7 @@ fn year(s: &[u8], at: usize, month: u8, day: u8) -> Option<(DateParts, usize)>
     Some((DateParts { year, month, day }, next))
 }
 
-// The name of a month with a blank behind it; the answer is the month and where the name ends.
+// The name of a month with a blank after it; the answer is the month and where the name ends.
 fn month_name(s: &[u8], at: usize) -> Option<(u8, usize)>
     ensures { NamedAt (lowered s.now) at result }
 {

@@ -50,7 +50,7 @@ pub(crate) fn nine(s: &[u8], at: usize) -> Option<u32>
     Some((a * 10000 + b) * 10 + u32::from(c))
 }
 
-// One digit or two, with a byte behind them that is none, and where they end.
+// One digit or two, with a byte after them that is none, and where they end.
 #[tactic(auto, using(crate::proofs::DigitRows::rows))]
 pub(crate) fn short(s: &[u8], at: usize) -> Option<(u8, usize)>
     ensures { ShortAt (lowered s.now) at result }

@@ -1,4 +1,4 @@
-// The relative item that ends a text: `+3 days`, `2 weeks ago`. A sign or none, a number, a blank, a unit, and `ago` behind a blank or
+// The relative item that ends a text: `+3 days`, `2 weeks ago`. A sign or none, a number, a blank, a unit, and `ago` after a blank or
 // nothing.
 
 ghost use Rattle.std.specs.Prelude.{◌<◌, length, get_or};
@@ -8,7 +8,7 @@ ghost use Rattle.text_quick.specs.Shifts.{ShiftAt, BehindSign, CountAt, UnitAt, 
 use relative::Relative;
 use relative_readers::unit::Unit;
 
-// The relative item there. A number without a sign has four digits at most: a longer one may be a date.
+// The relative item there. A number without a sign has at most four digits: a longer one may be a date.
 pub(crate) fn shift(s: &[u8], at: usize) -> Option<Relative>
     ensures { ShiftAt (lowered s.now) at result }
 {
@@ -23,7 +23,7 @@ pub(crate) fn shift(s: &[u8], at: usize) -> Option<Relative>
     count(s, end, s[at] == b'-', n)
 }
 
-// Behind a plus or a minus, or the same place.
+// After a plus or a minus, or the same place.
 fn behind_sign(s: &[u8], at: usize) -> usize
     requires { at < length s.now }
     ensures { BehindSign (get_or s.now at 0) at result }
@@ -69,7 +69,7 @@ const UNITS: [(&[u8], Unit); 6] = [
     (b"year", Unit::Year),
 ];
 
-// Behind an `s`, or the same place.
+// After an `s`, or the same place.
 fn behind_plural(s: &[u8], at: usize) -> usize
     ensures { Plural (lowered s.now) at result }
 {
@@ -79,7 +79,7 @@ fn behind_plural(s: &[u8], at: usize) -> usize
     at
 }
 
-// Whether a blank and `ago` stand there, up to the end of the text, or nothing.
+// Whether a blank and `ago` follow, up to the end of the text, or nothing.
 fn ago(s: &[u8], at: usize) -> Option<bool>
     ensures { WayAt (lowered s.now) at result }
 {

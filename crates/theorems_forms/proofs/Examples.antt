@@ -166,7 +166,7 @@ evening_in_one =
     (half_day_item s (row (bytes "8") refl) (omega arith) (omega arith) refl (no_minutes (at_once _ c)) (no_second (at_once _ c)) (meridiem_read (bytes " ") refl true true))) (bytes "2022") (bytes "09") (bytes "06") refl refl
     (row (bytes "09") refl) (row (bytes "06") refl) (year_of (bytes "2022") 9 6 refl)
 
--- 29.7: "'1 year' .. '3 years' .. '2 days' .. 'year ago'"
+-- 29.7: "1 year", "1 year ago", "3 years", "2 days"
 year_ago : Whole (bytes "1 year ago") (item.Relative (Years (negsuc 0)))
 unfolding bytes digit letter decimal blank tested lacks months same
 year_ago =

@@ -52,7 +52,7 @@ fraction_of (item.Offset o) = no_fraction
 fraction_of item.LocalZone = no_fraction
 fraction_of (item.Pure p) = no_fraction
 
--- Of the item v, which the text has from `at` to n: its fraction has a digit other than `0` after the ninth. `0` is 48. The digits end
+-- The item v, which is in the text from `at` to n, has a fraction with a digit other than `0` after the ninth. `0` is 48. The digits end
 -- within the item: `10:00:60.1234567891` begins with the item 10:00, and leaves the rest unread.
 pub record Loses (text : List ℕ) (at : ℕ) (v : Item) (n : ℕ) : Type 0 where
   pub digits : List ℕ
@@ -64,7 +64,7 @@ pub record Loses (text : List ℕ) (at : ℕ) (v : Item) (n : ℕ) : Type 0 wher
   pub inside : place < length digits
   pub other : get_or digits place 0 ≡ 48 → ⊥
 
--- As the Rust reads the text, k items stand from `at` to p, and none of them loses a digit.
+-- As the Rust reads the text, there are k items from `at` to p, and none of them loses a digit.
 pub data Undropped (text : List ℕ) : ℕ → ℕ → ℕ → Type 0 where
   no_item : {at p : ℕ} → at ≡ p → Undropped text zero at p
   one_more : {k at p n : ℕ} {v : Item} → space text at < length text → rust_item text at ≡ matched v n → (Loses text at v n → ⊥) → Undropped text k n p → Undropped text (suc k) at p

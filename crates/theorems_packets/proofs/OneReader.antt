@@ -17,7 +17,7 @@ use Rattle.theorems_packets.specs.Writing.{packet}
 use Rattle.theorems_packets.proofs.Theorems.{packet_builds}
 use Rattle.theorems_packets.proofs.Ranges.{text_items}
 
--- a text of the domain: "0 to 4096 bytes, each below 128", whose items are read
+-- a text of the domain (0 to 4096 bytes, each below 128) whose items are read
 pub record Readable (s : List ℕ) : Type 0 where
   pub long : length (lowered s) ≤ 4096
   pub ascii : length (lowered s) ≤ ascii_end (lowered s)

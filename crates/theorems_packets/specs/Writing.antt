@@ -1,4 +1,4 @@
--- The packet of a list of items: document 01, 'Packet and text'.
+-- The packet of a list of items: docs/SCOPE.md, 'The packet'.
 use Rattle.std.specs.Prelude.{ℕ, zero, suc, ◌+◌, ◌*◌, ◌/◌, ◌%◌, Bool, true, List, [], ◌∷◌, length}
 use Rattle.integers.specs.Integers.{in_i32, in_i64}
 use Rattle.relative.specs.declared.Relative.{Relative}
@@ -8,12 +8,12 @@ use Rattle.items.specs.declared.Item.TheVariants as item
 use Rattle.packet_fields.specs.Fields.{fields_of}
 use Rattle.packet_fields.specs.declared.Fields.{Fields}
 
--- "little-endian": a number in n bytes, and what stands behind them
+-- a number in n bytes, little-endian, and what follows them
 unfoldable pub number : ℕ → ℕ → List ℕ → List ℕ
 number zero v rest = rest
 number (suc n) v rest = v % 256 ∷ number n (v / 256) rest
 
--- the 28 bytes of fields, and what stands behind them
+-- the 28 bytes of fields, and what follows them
 unfoldable pub fields : Fields → List ℕ → List ℕ
 fields f rest =
     f.kind ∷ f.which ∷ f.month ∷ f.day ∷ number 4 f.year
@@ -23,13 +23,13 @@ unfoldable pub items : List Item → List ℕ → List ℕ
 items [] rest = rest
 items (x ∷ xs) rest = fields (fields_of x) (items xs rest)
 
--- "item count, offset of items (8), digit count, offset of digits (8 + 28 × items), u16 each; items of 28 bytes; digits, to its exact end"
+-- the header (item count, place of the items, digit count, place of the digits, two bytes each), the items, the digits
 unfoldable pub packet : List Item → List ℕ → List ℕ
 packet xs digits = number 2 (length xs) (number 2 8 (number 2 (length digits) (number 2 (8 + 28 * length xs) (items xs digits))))
 
 -- ---- which items can be written
 
--- "amounts are i32 but for seconds", whose amount is an i64
+-- amounts are i32, those of seconds i64
 unfoldable pub amount : Relative → Bool
 amount (relative.Years n) = in_i32 n
 amount (relative.Months n) = in_i32 n

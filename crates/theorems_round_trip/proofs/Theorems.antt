@@ -53,7 +53,7 @@ unfolding shift
 seconds_are true n = refl
 seconds_are false n = refl
 
--- "A record's text is the bytes the writer puts at the front of the lent place, as many as the length it answers"
+-- SCOPE, 'The writer': a record's text is the first lent bytes, of the length that the writer answers
 abbrev pub text_in : Written → List ℕ → List ℕ
 text_in w left = take w.length left
 

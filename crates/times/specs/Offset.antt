@@ -26,8 +26,7 @@ unless p q text at = without (p text at) (q text at)
 
 -- ---- the offset itself
 
--- 29.3: "The maximum zone correction is 24 hours." Document 01, items/offset.rs: +24:00 is accepted, +24:01 stops, +23:60 is 86400
--- seconds.
+-- 29.3: "The maximum zone correction is 24 hours." SCOPE, 'Offsets and corrections': +24:00 is accepted, +23:60 is 86400 seconds, +24:01 stops.
 unfoldable pub in_range : ℕ → ℕ → Bool
 in_range hours minutes = leb hours 24 && (leb minutes 60 && (ltb hours 24 || eqb minutes 0))
 
@@ -35,7 +34,7 @@ in_range hours minutes = leb hours 24 && (leb minutes 60 && (ltb hours 24 || eqb
 unfoldable pub moved : Offset → Normalized
 moved o = record { offset = record { negative = o.negative; hours = 23; minutes = o.minutes }; hour_adjustment = signed (not o.negative) (o.hours - 23) }
 
--- Document 01, items/offset.rs: `normalize` moves hours above 23 into the clock: +25:00 is +23:00 and two hours earlier. 24:00 isn't moved.
+-- SCOPE, 'Zones': `normalize` moves hours above 23 into the clock. +25:00 is +23:00 and two hours earlier; 24:00 is not moved.
 unfoldable pub normalized : Offset → Normalized
 normalized o = cond (ltb o.hours 24 || (eqb o.hours 24 && eqb o.minutes 0)) (record { offset = o; hour_adjustment = pos 0 }) (moved o)
 
@@ -48,7 +47,7 @@ offset_of negative hours minutes = certain (in_range hours minutes) (record { ne
 
 -- ---- its forms
 
--- 29.3: "You can also separate HH from MM with a colon." Each may stand behind space, and leading zeros count for nothing.
+-- 29.3: "You can also separate HH from MM with a colon." Each may come after space, and leading zeros count for nothing.
 unfoldable pub timezone_offset_colon : Reader Offset
 timezone_offset_colon = do
   negative ← plus_or_minus
@@ -61,8 +60,8 @@ timezone_offset_colon = do
 unfoldable pub digits_offset : Bool → ℕ → ℕ → Reader Offset
 digits_offset negative digits n = cond (leb digits 2) (offset_of negative n 0) (offset_of negative (n / 100) (n % 100))
 
--- Document 01, items/offset.rs: colonless strings are cut to the last four digits if zeros alone are lost. So more digits are read too,
--- as long as the number is below 10000; the manual knows at most four.
+-- SCOPE, 'Offsets and corrections': a row of digits without a colon is cut to its last four if only zeros are lost. So more digits are read
+-- too, as long as the number is below 10000; the manual has at most four.
 unfoldable pub timezone_offset_colonless : Reader Offset
 timezone_offset_colonless = do
   negative ← plus_or_minus
@@ -73,7 +72,7 @@ timezone_offset_colonless = do
 unfoldable pub any_offset : Reader Offset
 any_offset = timezone_offset_colon <|> timezone_offset_colonless
 
--- ---- where it stands
+-- ---- where it is read
 
 -- a number with a sign and a fraction
 unfoldable pub signed_fraction : Reader ℕ
@@ -82,11 +81,11 @@ signed_fraction = do
   spaced dec_uint_str
   fraction
 
--- 29.3: the correction behind a time. In "12:00 +1.5 seconds" there is none. Document 01, items/offset.rs: it does not yield to a relative
+-- 29.3: the correction after a time. In `12:00 +1.5 seconds` there is none. SCOPE, 'Offsets and corrections': it does not yield to a relative
 -- item.
 unfoldable pub time_zone_correction : Reader Offset
 time_zone_correction = unless signed_fraction any_offset
 
--- Document 01, items/offset.rs: `timezone_offset` yields to a relative item: "+8 years" is no offset.
+-- SCOPE, 'Offsets and corrections': `timezone_offset` yields to a relative item, so `+8 years` is no offset.
 unfoldable pub timezone_offset : Reader Offset
 timezone_offset = unless parse any_offset

@@ -1,4 +1,4 @@
--- Times of day, in the order of items/time.rs. 29.3: "A time of day item in date strings specifies the time on a given day."
+-- Times of day, in the order of items/time.rs. 29.3: "A 'time of day item' in date strings specifies the time on a given day."
 use Rattle.std.specs.Prelude.{ℕ, ◌+◌, ◌%◌, Bool, true, false, ltb, Option, Some, None, cond}
 use Rattle.primitive.specs.Answer.{Reader, ◌>>=◌, ◌>>◌, ◌<|>◌, pure, value, optional, verify}
 use Rattle.primitive.specs.Text.{quoted}
@@ -11,7 +11,7 @@ use Rattle.primitive.specs.declared.SecAndNsec.{SecAndNsec}
 
 -- ---- hours, minutes, seconds
 
--- a number below k, behind space
+-- a number below k, after space
 unfoldable pub below : ℕ → Reader ℕ
 below k = do
   v ← spaced (dec_uint 255)
@@ -34,8 +34,8 @@ second = do
   v ← spaced sec_and_nsec
   verify (ltb v.sec 60) (record { sec = v.sec; nsec = v.nsec })
 
--- 29.3: "Alternatively, ':SECOND' can be omitted, in which case it is taken to be zero." Document 01, items/time.rs: ":60" isn't taken as
--- seconds and is left unread.
+-- 29.3: "Alternatively, ':SECOND' can be omitted, in which case it is taken to be zero." SCOPE, 'Times': `:60` is not taken as a second and is
+-- left unread.
 unfoldable pub optional_second : Reader (SecAndNsec ℕ)
 optional_second = optional (record { sec = 0; nsec = 0 }) (colon >> second)
 
@@ -51,7 +51,7 @@ optional_correction = optional None (do
   o ← time_zone_correction
   pure (Some o))
 
--- an hour and an offset, which the manual does not have: "20 +1"
+-- an hour and an offset, which the manual does not have: `20 +1`
 unfoldable pub hour_offset : Reader Time
 hour_offset = do
   h ← hour24
@@ -80,7 +80,7 @@ meridiem =
     <|> value true (spaced (quoted "p.m."))
 
 -- 29.3: "HOUR is restricted to run from 1 to 12 .. In this notation, 12 is the predecessor of 1: midnight is '12am' while noon is '12pm'."
--- Document 01, items/time.rs: hour 0 with am or pm stops.
+-- SCOPE, 'Times': hour 0 with am or pm stops.
 unfoldable pub am_pm_time : Reader Time
 am_pm_time = do
   h ← hour12
@@ -92,7 +92,7 @@ am_pm_time = do
 unfoldable pub parse : Reader Time
 parse = am_pm_time <|> iso
 
--- ---- what the code reads behind an hour
+-- ---- what the code reads after an hour
 
 abbrev pub offset_behind : ℕ → Reader Time
 offset_behind h = do

@@ -13,7 +13,7 @@ pub fn ordinal(s: &[u8], at: usize) -> Option<(i32, usize)>
     text_ordinal(s, at).or_else(|| number_ordinal(s, at))
 }
 
-// A number with a sign or without one, behind space.
+// A number with a sign or without one, after space.
 #[tactic(auto, unfolding(primitive::specs::Ordinal::number_ordinal))]
 fn number_ordinal(s: &[u8], at: usize) -> Option<(i32, usize)>
     ensures { answer_of result ≡ number_ordinal (lowered s.now) at }
@@ -40,7 +40,7 @@ const ORDINALS: [(&str, i32); 14] = [
     ("twelfth", 12),
 ];
 
-// A word of the table, behind space.
+// A word of the table, after space.
 #[tactic(auto, unfolding(primitive::specs::Ordinal::text_ordinal))]
 fn text_ordinal(s: &[u8], at: usize) -> Option<(i32, usize)>
     ensures { answer_of result ≡ text_ordinal (lowered s.now) at }

@@ -1,5 +1,5 @@
--- The text of a record, and the answers of the writer, computed: document 01's example, the longest text, the order of the refusals.
--- Assumes nothing.
+-- The text of a record, and the answers of the writer, computed: the example of docs/SCOPE.md, 'The writer', the longest text, the order of
+-- the refusals. Assumes nothing.
 use mathlib.Core.Path.{◌≡◌, refl}
 use native.Mathlib.Omega.{arith}
 use lib.IntN.{pos, negsuc}
@@ -11,7 +11,7 @@ use Rattle.extended.specs.declared.ExtendedDateTime.{ExtendedDateTime}
 use Rattle.writer.specs.Writer.{fixed, width_up_to, width, digits, padded, text_of, written}
 use Rattle.writer.proofs.Digits.{width_is}
 
--- "as `0005-01-02 03:04:05.000000006+00:00`"
+-- SCOPE, 'The writer': `0005-01-02 03:04:05.000000006+00:00`
 pub early : ExtendedDateTime
 early = make (date 5 1 2) (time 3 4 5 6) (pos 0)
 
@@ -37,7 +37,7 @@ pub shortest : (digits 0 ≡ bytes "0") × (digits 9 ≡ bytes "9") × (digits 1
 unfolding bytes fixed width_up_to width digits
 shortest = (refl, refl, refl, refl)
 
--- "The writer: record, 20, 19": each number where all that come behind it would be given too
+-- the tests of the record, then 20, then 19: each number where all that come after it would be given too
 pub refusals : (written (make (date 5 13 2) (time 3 4 5 6) (pos 30)) 0 ≡ refused 11)
     × (written (make (date 5 1 2) (time 3 4 5 6) (pos 30)) 0 ≡ refused 20)
     × (written (make (date 5 1 2) (time 3 4 5 6) (negsuc 0)) 0 ≡ refused 20)

@@ -29,7 +29,7 @@ pub text_length : (r : ExtendedDateTime) → length (text_of r) ≡ max 4 (width
 unfolding text_of
 text_length r = simp (length-append, fixed_length, padded_length) (omega arith)
 
--- "35 to 41 bytes"
+-- a text has 35 to 41 bytes
 pub text_least : (r : ExtendedDateTime) → 35 ≤ length (text_of r)
 text_least r = omega (arith, text_length r)
 
@@ -88,7 +88,7 @@ pub text_lowered : (r : ExtendedDateTime) → lowered (text_of r) ≡ text_of r
 text_lowered r = plain_lowered (text_of r) (text_plain r)
 
 -- ---- the offset
--- "the offset runs from -86400 to 86400"
+-- an offset is from -86400 to 86400 seconds
 pub offset_high : (z : ℤ) → test_offset z ≡ accepted tt → nat_abs z ≤ 86400
 unfolding test_offset
 offset_high (pos n) e = let t = check_true (leb n 86400) 17 e in leb-true n 86400 t

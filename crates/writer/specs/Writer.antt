@@ -1,4 +1,4 @@
--- The text of a record, and what writing it answers: document 01, 'Packet and text' and 'The counted calendar'.
+-- The text of a record, and what writing it answers: docs/SCOPE.md, 'The writer'.
 use Rattle.answers.specs.Numbers as refusal
 use Rattle.std.specs.Prelude.{ℕ, zero, suc, ◌+◌, ◌/◌, ◌%◌, max, min, Bool, true, false, cond, List, [], ◌∷◌, ◌++◌, eqb, ltb, leb, ℤ, pos, negsuc, nat_abs, length, drop}
 use Rattle.answers.specs.Outcome.{Outcome, accepted, refused, number, value_or, check, ◌>>◌}
@@ -13,7 +13,7 @@ unfoldable pub fixed : ℕ → ℕ → List ℕ
 fixed zero n = []
 fixed (suc k) n = fixed k (n / 10) ++ ((48 + n % 10) ∷ [])
 
--- how many digits n has, if they are no more than f + 1
+-- how many digits n has, if they are at most f + 1
 unfoldable pub width_up_to : ℕ → ℕ → ℕ
 width_up_to zero n = 1
 width_up_to (suc f) n = cond (ltb n 10) 1 (suc (width_up_to f (n / 10)))
@@ -30,21 +30,21 @@ padded k n = fixed (max k (width n)) n
 
 -- ---- the text of a record
 
--- a sign is true for minus, as the readers have it
+-- a sign is true for minus, as in the readers
 abbrev pub negative : ℤ → Bool
 negative (pos n) = false
 negative (negsuc n) = true
 
--- "Zero offset is written with plus." `+` is 43 and `-` is 45
+-- offset 0 is written with plus; `+` is 43 and `-` is 45
 abbrev pub sign_of : Bool → ℕ
 sign_of true = 45
 sign_of false = 43
 
--- A byte and k digits of n behind it; each part of the text is given with what stands behind it.
+-- A byte and k digits of n after it; each part of the text is given with what follows it.
 abbrev pub field : ℕ → ℕ → ℕ → List ℕ → List ℕ
 field b k n rest = b ∷ (fixed k n ++ rest)
 
--- "the year in 4 digits or, from 10000, in as many as it needs". `-` is 45
+-- the year has at least four digits, and more from 10000 on; `-` is 45
 abbrev pub date_part : ExtendedDateTime → List ℕ → List ℕ
 date_part r rest = padded 4 r.year ++ field 45 2 r.month (field 45 2 r.day rest)
 
@@ -52,7 +52,7 @@ date_part r rest = padded 4 r.year ++ field 45 2 r.month (field 45 2 r.day rest)
 abbrev pub time_part : ExtendedDateTime → List ℕ → List ℕ
 time_part r rest = field 32 2 r.hour (field 58 2 r.minute (field 58 2 r.second (field 46 9 r.nanosecond rest)))
 
--- "the offset's minutes below 60"
+-- the offset's minutes are below 60
 abbrev pub offset_part : ℤ → List ℕ → List ℕ
 offset_part z rest = field (sign_of (negative z)) 2 (nat_abs z / 3600) (field 58 2 (nat_abs z % 3600 / 60) rest)
 
@@ -61,11 +61,11 @@ text_of r = date_part r (time_part r (offset_part r.offset_seconds []))
 
 -- ---- writing
 
--- 20 is "offset not whole minutes, on writing"
+-- an offset of no whole minutes is 20
 abbrev pub whole_minutes : ℤ → Bool
 whole_minutes z = eqb (nat_abs z % 60) 0
 
--- "The writer: record, 20, 19": the text, where a place of so many bytes holds it
+-- the text, after the tests of the record, then 20, then 19 for a place of too few bytes
 unfoldable pub written : ExtendedDateTime → ℕ → Outcome (List ℕ)
 written r room = do
   test r
@@ -82,7 +82,7 @@ abbrev pub written_length : Outcome (List ℕ) → Outcome ℕ
 written_length (accepted text) = accepted (length text)
 written_length (refused n) = refused n
 
--- "where a length .. was wanted, it is 0"; the length's field ends at 4294967295
+-- the length, 0 in a refusal; its field ends at 4294967295
 unfoldable pub length_answer : Outcome ℕ → Written
 length_answer o = record { number = number o; length = min (value_or 0 o) 4294967295 }
 
@@ -90,6 +90,6 @@ length_answer o = record { number = number o; length = min (value_or 0 o) 429496
 abbrev pub written_answer : Outcome (List ℕ) → Written
 written_answer o = record { number = number o; length = length (bytes_of o) }
 
--- "Bytes behind the text stay."
+-- bytes after the text stay
 abbrev pub over : List ℕ → List ℕ → List ℕ
 over text out = text ++ drop (length text) out

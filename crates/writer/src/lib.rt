@@ -22,7 +22,7 @@ pub struct Written {
     pub length: u32,
 }
 
-// No text is longer than 41 bytes; a length that the field can't hold would be the largest that it can.
+// No text is longer than 41 bytes; a length that the field can't represent would be the largest that it can.
 impl From<Result<usize, Refusal>> for Written {
     ghost from_gives = { λ made answer. answer ≡ length_answer (outcome_of made) };
 

@@ -36,7 +36,7 @@ impl Text {
         &self.bytes[..self.length]
     }
 
-    // A byte and the last `count` digits of a number behind it.
+    // A byte and the last `count` digits of a number after it.
     pub(crate) fn push_field(&mut self, byte: u8, count: usize, number: u32)
         requires { length self.old + count < 41 }
         ensures text { self.new ≡ self.old ++ field byte count number [] }

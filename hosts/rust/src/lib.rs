@@ -159,7 +159,7 @@ pub fn days_in_month(year: u32, month: u8) -> u8 {
     unsafe { raw::seqtullo_days_in_month(year, month) }
 }
 
-// The functions behind these calls take any numbers and keep nothing.
+// The C functions that are called here take any numbers and keep nothing.
 impl Record {
     #[allow(clippy::too_many_arguments)]
     pub fn new(year: u32, month: u8, day: u8, hour: u8, minute: u8, second: u8, nanosecond: u32, offset_seconds: i32) -> Result<Record, Refusal> {
@@ -180,7 +180,7 @@ impl Record {
         }
     }
 
-    /// The text of the record, which read under any base is the record again.
+    /// The text of the record. Read under any accepted base, it gives the record again.
     pub fn write(self) -> Result<Text, Refusal> {
         let mut bytes = [0; 41];
         // The pointer and the length are those of one array.
@@ -208,12 +208,12 @@ impl Record {
         record(unsafe { raw::seqtullo_add_seconds(self, seconds, nanoseconds) })
     }
 
-    /// The same day of another year; where that has no such day, as many days behind its last.
+    /// The same day of another year; from 29 February it is 1 March where the year has no 29 February.
     pub fn add_years(self, years: i32) -> Result<Record, Refusal> {
         record(unsafe { raw::seqtullo_add_years(self, years) })
     }
 
-    /// The same day of another month; where that has no such day, as many days behind its last.
+    /// The same day of another month. Where that has no such day: its last day, and the days that were cut off are added.
     pub fn add_months(self, months: i32) -> Result<Record, Refusal> {
         record(unsafe { raw::seqtullo_add_months(self, months) })
     }

@@ -116,7 +116,7 @@ impl PacketBuilder {
         self
     }
 
-    /// A date; without a year it is one of the base's year, or of a pure number's behind it.
+    /// A date; without a year it is of the base's year, or of the year that a pure number after it gives.
     pub fn date(&mut self, year: Option<u32>, month: u8, day: u8) -> &mut PacketBuilder {
         let mut item = kind(1);
         set_date(&mut item, year, month, day);
