@@ -1,5 +1,5 @@
--- The definitions, computed: the dates of section 29.2 of the manual, document 01's corners, and its thirteen examples as one table with
--- one claim. Assumes nothing.
+-- The definitions, computed: the dates of section 29.2 of the manual, the corners of docs/SCOPE.md, 'Dates', and its thirteen examples as one
+-- table with one claim. Assumes nothing.
 use Prim.Native.Nat.{ℕ}
 use Prim.Native.String.{String}
 use mathlib.Core.Path.{◌≡◌, refl}
@@ -10,7 +10,8 @@ use Rattle.extended.specs.Calendar.{leap, month_days}
 use Rattle.extended.specs.Extended.{from_unix_seconds, add_months, add_years}
 use Rattle.extended.specs.declared.ExtendedDateTime.{ExtendedDateTime}
 use Rattle.extended.proofs.Examples.{at, midnight, epoch, before, first, below, march_2023, march_2024, march_2025}
-use Rattle.primitive.specs.Answer.{Answer, Reader, matched, none}
+use Rattle.primitive.proofs.Examples.{reads}
+use Rattle.primitive.specs.Answer.{Answer, matched, none}
 use Rattle.primitive.specs.Text.{lower, lowered, bytes, blank, digit, letter, run, past, some, starts, tag}
 use Rattle.primitive.specs.Primitive.{multispace0, multispace1, closing, inside, comment, no_digit, sign, ignored_hyphen_or_plus, ignored, skip, space, decimal, parse_uint, dec_uint_str, dec_uint, alpha1, same, named}
 use Rattle.dates.specs.Year.{widened_by, year_from_str, year_str}
@@ -18,14 +19,10 @@ use Rattle.dates.specs.Date.{date_of, exists, with_year, without_year, dated, en
 use Rattle.dates.specs.declared.date.Date.{Date}
 use Rattle.std.specs.Prelude.{Some, None}
 
--- what a reader makes of a quoted text, from its start
-abbrev reads : {A : Type 0} → Reader A → String → Answer A
-reads p text = p (lowered (bytes text)) 0
-
 abbrev ymd : ℕ → ℕ → ℕ → Date
 ymd y m d = date_of (Some y) m d
 
--- ---- document 01's thirteen: digits and the year they write; a record, or its number, and what it should be
+-- ---- SCOPE, 'Thirteen examples': digits and the year they write; a record, or its number, and what it should be
 abbrev pub year_of : String → Answer ℕ
 year_of w = year_from_str (bytes w) [] 0
 
@@ -38,8 +35,7 @@ Right [] = Unit {0}
 Right (year w a ∷ es) = (year_of w ≡ a) × Right es
 Right (gives found wanted ∷ es) = (found ≡ wanted) × Right es
 
--- items/year.rs: "'68' is 2068, '69' is 1969, '98' is 1998, '098' is 98. 2147485547 is the last year; 2147485548 is refused." extended.rs:
--- four moments, three ends of months and years.
+-- six years, four moments, three ends of months and years
 pub thirteen : List Example
 thirteen =
     year "68" (matched 2068 0) ∷ year "69" (matched 1969 0) ∷ year "98" (matched 1998 0) ∷ year "098" (matched 98 0)

@@ -1,5 +1,6 @@
--- The definitions, computed: the manual's worked examples as one table with one claim, and document 01's corners. Assumes nothing.
+-- The definitions, computed: the manual's worked examples as one table with one claim, and the corners of docs/SCOPE.md. Assumes nothing.
 use Rattle.std.specs.Prelude.{Option, Some, None}
+use Rattle.times.proofs.Examples.{at_time}
 use Rattle.times.specs.declared.offset.Offset.{Offset}
 use Prim.Native.Nat.{ℕ}
 use Prim.Native.String.{String}
@@ -30,9 +31,6 @@ use Rattle.items.specs.declared.Item.TheVariants as item
 abbrev date : ℕ → ℕ → ℕ → Item
 date y m d = item.Date (date_of (Some y) m d)
 
-abbrev clock_time : ℕ → ℕ → ℕ → ℕ → Option Offset → Time
-clock_time h m s n o = record { hour = h; minute = m; second = s; nanosecond = n; offset = o }
-
 abbrev both : ℕ → ℕ → ℕ → Time → Item
 both y m d t = item.DateTime (record { date = date_of (Some y) m d; time = t })
 
@@ -55,12 +53,12 @@ manual =
     ∷ reads "20 Jul 2020" (matched (date 2020 7 20) 11) ∷ reads "Jul 20, 2020" (matched (date 2020 7 20) 12)
     ∷ reads "20-jul-2020" (matched (date 2020 7 20) 11) ∷ reads "20jul2020" (matched (date 2020 7 20) 9)
     ∷ reads "7/20" (matched (item.Date (date_of None 7 20)) 4) ∷ reads "jul 20" (matched (item.Date (date_of None 7 20)) 6)
-    ∷ reads "20:02:00.000000" (matched (item.Time (clock_time 20 2 0 0 None)) 15)
-    ∷ reads "20:02" (matched (item.Time (clock_time 20 2 0 0 None)) 5)
-    ∷ reads "8:02pm" (matched (item.Time (clock_time 20 2 0 0 None)) 6)
-    ∷ reads "20:02-0500" (matched (item.Time (clock_time 20 2 0 0 (at_offset true 5 0))) 10)
-    ∷ reads "2012-09-24T20:02:00.052-05:00" (matched (both 2012 9 24 (clock_time 20 2 0 52000000 (at_offset true 5 0))) 29)
-    ∷ reads "2012-12-31T23:59:59,999999999+11:00" (matched (both 2012 12 31 (clock_time 23 59 59 999999999 (at_offset false 11 0))) 35)
+    ∷ reads "20:02:00.000000" (matched (item.Time (at_time 20 2 0 0 None)) 15)
+    ∷ reads "20:02" (matched (item.Time (at_time 20 2 0 0 None)) 5)
+    ∷ reads "8:02pm" (matched (item.Time (at_time 20 2 0 0 None)) 6)
+    ∷ reads "20:02-0500" (matched (item.Time (at_time 20 2 0 0 (at_offset true 5 0))) 10)
+    ∷ reads "2012-09-24T20:02:00.052-05:00" (matched (both 2012 9 24 (at_time 20 2 0 52000000 (at_offset true 5 0))) 29)
+    ∷ reads "2012-12-31T23:59:59,999999999+11:00" (matched (both 2012 12 31 (at_time 23 59 59 999999999 (at_offset false 11 0))) 35)
     ∷ reads "1 year" (matched (item.Relative (Years (pos 1))) 6) ∷ reads "1 year ago" (matched (item.Relative (Years (negsuc 0))) 10)
     ∷ reads "3 years" (matched (item.Relative (Years (pos 3))) 7) ∷ reads "2 days" (matched (item.Relative (Days (pos 2))) 6)
     ∷ []
@@ -130,10 +128,10 @@ manual_right = (
 -- in an ISO time may be a time in 12 hours; hour 0 with am stops the item.
 corners : (parse_item (lowered (bytes "2020-07-20 x")) 0 ≡ matched (date 2020 7 20) 10)
     × (parse_item (lowered (bytes "2020-07-20 +2 hours")) 0 ≡ matched (date 2020 7 20) 10)
-    × (parse_item (lowered (bytes "2020-07-20 10:00 pm")) 0 ≡ matched (both 2020 7 20 (clock_time 22 0 0 0 None)) 19)
-    × (parse_item (lowered (bytes "2020-07-20 10:00(c)pm")) 0 ≡ matched (both 2020 7 20 (clock_time 10 0 0 0 None)) 16)
-    × (parse_item (lowered (bytes "2020-07-20 0:30am")) 0 ≡ stop) × (parse_item (lowered (bytes "20200720t1 pm")) 0 ≡ matched (both 2020 7 20 (clock_time 13 0 0 0 None)) 13)
-    × (parse_item (lowered (bytes "2020-07-20 10:00 +25:00")) 0 ≡ stop) × (parse_item (lowered (bytes "10:00 +2 hours")) 0 ≡ matched (item.Time (clock_time 10 0 0 0 (at_offset false 2 0))) 8)
+    × (parse_item (lowered (bytes "2020-07-20 10:00 pm")) 0 ≡ matched (both 2020 7 20 (at_time 22 0 0 0 None)) 19)
+    × (parse_item (lowered (bytes "2020-07-20 10:00(c)pm")) 0 ≡ matched (both 2020 7 20 (at_time 10 0 0 0 None)) 16)
+    × (parse_item (lowered (bytes "2020-07-20 0:30am")) 0 ≡ stop) × (parse_item (lowered (bytes "20200720t1 pm")) 0 ≡ matched (both 2020 7 20 (at_time 13 0 0 0 None)) 13)
+    × (parse_item (lowered (bytes "2020-07-20 10:00 +25:00")) 0 ≡ stop) × (parse_item (lowered (bytes "10:00 +2 hours")) 0 ≡ matched (item.Time (at_time 10 0 0 0 (at_offset false 2 0))) 8)
     × (parse_item (lowered (bytes "hours")) 0 ≡ matched (item.Relative (Hours (pos 1))) 5) × (parse_item (lowered (bytes "monday")) 0 ≡ none)
     × (parse_item (lowered (bytes "")) 0 ≡ none)
 unfolding leap month_days lower lowered bytes blank digit letter run past some starts tag multispace0 multispace1 closing inside comment no_digit sign ignored_hyphen_or_plus ignored skip space decimal parse_uint dec_uint_str dec_uint colon plus_or_minus alpha1 same named zero_filled nanoseconds nonzero lost point_or_comma fraction sec_and_nsec signed signed_number ordinals text_ordinal number_ordinal ordinal widened_by year_from_str year_str exists with_year without_year dated end_of_text blank_or_end ended ended_year dated_behind nothing hyphen comma dotted iso1 five_digits iso2 us_date slash_part us_rest us months word_dot literal_month literal1 literal2 literal3 literal parse_non_iso in_range offset_of timezone_offset_colon digits_offset timezone_offset_colonless any_offset signed_fraction time_zone_correction timezone_offset below hour24 hour12 minute second optional_second optional_minute optional_correction hour_offset clock iso meridiem am_pm_time time-parse direction rounded second_words second_word signed_seconds seconds days units stripped in_unit displaced displacement relative-parse separator meridiem_word starts_with_meridiem unless_meridiem iso_alone combined_time parse_time_after_date date_time_item dated_item iso_date iso_item date_item time_item relative_item time_or_relative other_item parse_item

@@ -1,4 +1,46 @@
 -- The items of a text, as in items/mod.rs. 29.1: "A 'date' is a string, possibly empty, containing many items separated by whitespace."
+--
+-- The grammar of a text. Space may come before every quoted text and every row of digits or letters, but not after `~`. Alternatives are tried in
+-- order, the first that matches is taken, and `!` looks ahead. docs/SCOPE.md, 'The grammar', has the conditions of each part.
+--
+--   text         = { item } , space , end ;
+--   item         = iso_date , [ separator , date_time ] | date | time | relative ;
+--
+--   iso_date     = year , "-" , month , "-" , day | row ;
+--   row          = ~ digits ;
+--   separator    = "t" | ~ " " ;
+--   date_time    = clock , ! ( [ ~ blanks ] , ~ meridiem ) | time ;
+--
+--   date         = dotted | slashed | day_first | name_first | hyphened ;
+--   dotted       = day , "." , month , "." , [ year , ended ] ;
+--   slashed      = digits , "/" , digits , [ "/" , digits ] ;
+--   day_first    = day , [ "-" ] , name , [ [ "-" ] , year , ended ] ;
+--   name_first   = name , day , [ [ "," , ~ blanks ] , year , ended ] ;
+--   hyphened     = name , "-" , day , "-" , year ;
+--   ended        = ~ blanks | ~ end ;
+--   name         = letters , [ ~ "." ] ;
+--
+--   time         = twelve | clock ;
+--   twelve       = hour , [ ":" , minute ] , [ ":" , second ] , meridiem ;
+--   clock        = hour , offset | hour , ":" , minute , [ ":" , second ] , [ correction ] ;
+--   second       = digits , [ fraction ] ;
+--   fraction     = ~ ( "." | "," ) , ~ digits ;
+--   meridiem     = "am" | "a.m." | "pm" | "p.m." ;
+--
+--   offset       = ! relative , zone ;
+--   correction   = ! ( sign , digits , fraction ) , zone ;
+--   zone         = sign , digits , ":" , digits | sign , digits ;
+--   sign         = "+" | "-" ;
+--
+--   relative     = seconds | displacement ;
+--   seconds      = [ sign ] , digits , [ fraction ] , letters , [ direction ] ;
+--   displacement = [ ordinal ] , letters , [ direction ] ;
+--   ordinal      = letters | [ sign ] , digits ;
+--   direction    = "ago" | "hence" ;
+--
+--   space        = [ ~ blanks ] , { ( comment | ~ sign , [ ~ blanks ] , ! ~ digits ) , [ ~ blanks ] } ;
+--   comment      = ~ "(" , { comment | ~ other } , ~ ")" ;
+--   year = digits ; month = digits ; day = digits ; hour = digits ; minute = digits ;
 use Rattle.answers.specs.Numbers as refusal
 use Rattle.answers.specs.Limits.{most_items}
 use Rattle.std.specs.Prelude.{ℕ, zero, suc, List, [], ◌∷◌, ◌++◌, length, ltb, cond}

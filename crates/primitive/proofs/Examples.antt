@@ -13,7 +13,7 @@ use Rattle.primitive.specs.Epoch.{zero_filled, nanoseconds, nonzero, lost, point
 use Rattle.primitive.specs.Ordinal.{signed, signed_number, ordinals, text_ordinal, number_ordinal, ordinal}
 
 -- what a reader makes of a quoted text, from its start
-abbrev reads : {A : Type 0} → Reader A → String → Answer A
+abbrev pub reads : {A : Type 0} → Reader A → String → Answer A
 reads p text = p (lowered (bytes text)) 0
 
 -- where the space in front of a quoted text ends

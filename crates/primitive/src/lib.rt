@@ -7,7 +7,7 @@
 
 #![tactic(auto)]
 
-ghost use Rattle.std.specs.Prelude.{ℕ, Bool, min, ◌≡◌, eqb};
+ghost use Rattle.std.specs.Prelude.{ℕ, Bool, ◌≡◌, eqb};
 ghost use Rattle.std.proofs.Math.Seq.{slice};
 ghost use Rattle.primitive.specs.Text.{lower, lowered, part_answer, blank, digit, letter, past, some, Tells, byte, tag};
 ghost use Rattle.primitive.specs.Answer.{answer_of, place_answer};
@@ -172,11 +172,4 @@ pub fn alpha1(s: &[u8], at: usize) -> Option<(&[u8], usize)>
     ensures { part_answer result ≡ alpha1 (lowered s.now) at }
 {
     some(s, at, is_letter)
-}
-
-// The smaller of two places. It is public, with a promise of its own.
-pub fn min(a: usize, b: usize) -> usize
-    ensures { result ≡ min a b }
-{
-    usize::min(a, b)
 }

@@ -1,19 +1,15 @@
 -- The definitions, computed: what each reader makes of a written text. Assumes nothing.
-use Prim.Native.String.{String}
 use mathlib.Core.Path.{◌≡◌, refl}
 use mathlib.Core.Bool.{true, false}
 use lib.IntN.{pos, negsuc}
-use Rattle.primitive.specs.Answer.{Answer, Reader, matched, none}
+use Rattle.primitive.proofs.Examples.{reads}
+use Rattle.primitive.specs.Answer.{matched, none}
 use Rattle.primitive.specs.Text.{lower, lowered, bytes, blank, digit, letter, run, past, some, starts, tag}
 use Rattle.primitive.specs.Primitive.{multispace0, closing, inside, comment, no_digit, sign, ignored_hyphen_or_plus, ignored, skip, space, decimal, parse_uint, dec_uint_str, dec_uint, plus_or_minus, alpha1, same, named}
 use Rattle.primitive.specs.Epoch.{zero_filled, nanoseconds, nonzero, lost, point_or_comma, fraction, sec_and_nsec}
 use Rattle.primitive.specs.Ordinal.{signed, signed_number, ordinals, text_ordinal, number_ordinal, ordinal}
 use Rattle.relative.specs.Relative.{direction, rounded, second_words, second_word, signed_seconds, seconds, days, units, stripped, in_unit, displaced, displacement, parse}
 use Rattle.relative.specs.declared.Relative.TheVariants.{Years, Months, Days, Hours, Minutes, Seconds}
-
--- what a reader makes of a quoted text, from its start
-abbrev reads : {A : Type 0} → Reader A → String → Answer A
-reads p text = p (lowered (bytes text)) 0
 
 -- 29.7: the manual's examples, and a number of months below 0.
 manual : (reads parse "1 year" ≡ matched (Years (pos 1)) 6) × (reads parse "1 year ago" ≡ matched (Years (negsuc 0)) 10)
@@ -33,7 +29,7 @@ all_units : (reads parse "Months" ≡ matched (Months (pos 1)) 6) × (reads pars
 unfolding lower lowered bytes blank digit letter run past some starts tag multispace0 closing inside comment no_digit sign ignored_hyphen_or_plus ignored skip space decimal parse_uint dec_uint_str dec_uint plus_or_minus alpha1 same named zero_filled nanoseconds nonzero lost point_or_comma fraction sec_and_nsec signed signed_number ordinals text_ordinal number_ordinal ordinal direction rounded second_words second_word signed_seconds seconds days units stripped in_unit displaced displacement parse
 all_units = (refl, refl, refl, refl, refl, refl, refl, refl, refl, refl, refl, refl, refl)
 
--- Document 01, items/relative.rs: seconds round down; those that no i64 holds are no match.
+-- SCOPE, 'Relative items': seconds round down; those that no i64 can represent are no match.
 fractions : (reads parse "1.5 seconds ago" ≡ matched (Seconds (negsuc 1) 500000000) 15)
     × (reads parse "-0,25 sec" ≡ matched (Seconds (negsuc 0) 750000000) 9) × (reads parse "-2 secs ago" ≡ matched (Seconds (pos 2) 0) 11)
     × (reads parse "-1.000000000 second" ≡ matched (Seconds (negsuc 0) 0) 19) × (reads parse "1.5 seconds" ≡ matched (Seconds (pos 1) 500000000) 11)

@@ -1,34 +1,30 @@
 -- A record that is made of a text's date and time at once, and moved by its relative item, is the one that the text's items build. Assumes
 -- nothing.
 use Rattle.items.specs.declared.Item.{Item}
-use native.Mathlib.Omega.{arith}
-use Prim.Native.Nat.{ℕ, ◌+◌, ◌<◌, ◌≤◌, max}
-use mathlib.Core.Path.{◌≡◌, refl, sym, ap, ◌∙◌}
+use Prim.Native.Nat.{ℕ, ◌≤◌}
+use mathlib.Core.Path.{◌≡◌, sym, ap, ◌∙◌}
 use mathlib.Core.Bool.{true}
 use mathlib.Core.List.{List, [], ◌∷◌, ◌++◌}
-use lib.ListN.{length, get_or}
+use lib.ListN.{length}
 use borrow.Author.Tests.{le-leb}
-use Rattle.std.proofs.Math.Nat.{le-max_left, le-max_right}
 use Rattle.answers.specs.Outcome.{Outcome, accepted}
 use Rattle.answers.specs.Refusals.{outcome_of}
 use Rattle.answers.specs.declared.Refusal.{Refusal}
 use Rattle.primitive.proofs.Lowered.{clash}
 use Rattle.std.specs.Prelude.{Some, Result, Ok, Err}
-use Rattle.std.specs.Result.{result_ok, is_ok}
+use Rattle.std.specs.Result.{result_ok}
 use Rattle.extended.specs.Extended.{make, test, accept}
 use Rattle.extended.specs.declared.ExtendedDateTime.{ExtendedDateTime}
 use Rattle.answers.proofs.Outcomes.{first_passed, same}
 use Rattle.extended.proofs.Records.{facts}
-use Rattle.primitive.specs.Text.{lower, lowered, past}
 use Rattle.primitive.proofs.Rows.{both}
-use Rattle.primitive.proofs.Runs.{past_more, past_end}
 use Rattle.dates.specs.Date.{exists}
 use Rattle.relative.specs.declared.Relative.{Relative}
 use Rattle.items.specs.Items.{ended, parse_items}
 use Rattle.items.specs.declared.Item.TheVariants as item
 use Rattle.answers.specs.Placed.{fine, placed}
 use Rattle.builder.specs.Building.{add_relative, build}
-use Rattle.text_general.specs.Reading.{ascii, ascii_end, items_of, build_parsed, build_text, read_text}
+use Rattle.text_general.specs.Reading.{items_of, build_parsed, build_text}
 use Rattle.text_quick.specs.Shifts.{Shift}
 use Rattle.text_quick.specs.Shapes.{Fronts, day_alone, combined, apart, Shaped, record_of, AtOnce}
 use Rattle.text_quick.specs.declared.Shape.{Shape}

@@ -24,10 +24,10 @@ use extended::{DateParts, ExtendedDateTime, TimeParts};
 use times::offset::Offset;
 use times::time::Time;
 
-// A longer text is not tried: of these forms it could only be one with many zeros in front of a number.
+// A longer text is not tried: of these forms it could only be one with many zeros before a number.
 const LONGEST: usize = 128;
 
-// A date and a time of day, midnight where none is given, and the place behind them and the blanks that follow.
+// A date and a time of day, midnight where none is given, and the place after them and the blanks that follow.
 #[derive(Clone, Copy)]
 struct Shape {
     date: DateParts,
@@ -95,7 +95,7 @@ fn iso_shape(s: &[u8]) -> Option<Shape>
     None
 }
 
-// Whether a blank or a `t` stands there, and a time of two digits, a colon and more seems to follow.
+// Whether there is a blank or a `t`, and a time of two digits, a colon and more seems to follow.
 #[tactic(auto, using(crate::proofs::Fronts::separator_at))]
 fn timed(s: &[u8], at: usize) -> bool
     requires { at < length s.now }
@@ -131,7 +131,7 @@ fn other_shape(s: &[u8]) -> Option<Shape>
     Some(Shape { date, time, next })
 }
 
-// Whether a colon stands behind one byte or two.
+// Whether there is a colon after one byte or two.
 fn clocked(s: &[u8], at: usize) -> bool {
     s.len() >= 3 && at <= s.len() - 3 && (s[at + 1] == b':' || s[at + 2] == b':')
 }

@@ -38,10 +38,6 @@ pub check_numbered : (b : Bool) (k : ℕ) → 0 < k → k ≤ 20 → Numbered (c
 check_numbered true k low high = value tt
 check_numbered false k low high = by_number k low high
 
-pub if_numbered : {A : Type 0} (b : Bool) {p q : Outcome A} → Numbered p → Numbered q → Numbered (cond b p q)
-if_numbered true h g = h
-if_numbered false h g = g
-
 pub cond_numbered : {A : Type 0} (b : Bool) {p q : Outcome A} → Numbered p → Numbered q → Numbered (cond b p q)
 cond_numbered true h g = h
 cond_numbered false h g = g
@@ -60,7 +56,7 @@ wanted_numbered k low high (dropped v n) = by_number k low high
 wanted_numbered k low high none = by_number k low high
 wanted_numbered k low high stop = by_number k low high
 
-pub ruleset steps = (value, by_number, then, next, check_numbered, if_numbered, cond_numbered, checked_numbered, from_zero_numbered, wanted_numbered, rules)
+pub ruleset steps = (value, by_number, then, next, check_numbered, cond_numbered, checked_numbered, from_zero_numbered, wanted_numbered, rules)
 
 -- ---- answers with a place
 

@@ -1,10 +1,10 @@
 -- The definitions, computed: what each reader makes of a written text. Assumes nothing.
 use Prim.Native.Nat.{ℕ}
-use Prim.Native.String.{String}
 use mathlib.Core.Path.{◌≡◌, refl}
 use mathlib.Core.Bool.{true, false}
 use lib.IntN.{ℤ, pos, negsuc}
-use Rattle.primitive.specs.Answer.{Answer, Reader, matched, none, stop}
+use Rattle.primitive.proofs.Examples.{reads}
+use Rattle.primitive.specs.Answer.{matched, none, stop}
 use Rattle.primitive.specs.Text.{lower, lowered, bytes, blank, digit, letter, run, past, some, starts, tag}
 use Rattle.primitive.specs.Primitive.{multispace0, closing, inside, comment, no_digit, sign, ignored_hyphen_or_plus, ignored, skip, space, decimal, parse_uint, dec_uint_str, dec_uint, colon, plus_or_minus, alpha1, same, named}
 use Rattle.primitive.specs.Epoch.{zero_filled, nanoseconds, nonzero, lost, point_or_comma, fraction, sec_and_nsec}
@@ -18,10 +18,6 @@ use Rattle.times.specs.declared.offset.Normalized.{Normalized}
 use Rattle.times.specs.declared.time.Time.{Time}
 use Rattle.std.specs.Prelude.{Option, Some, None}
 
--- what a reader makes of a quoted text, from its start
-abbrev reads : {A : Type 0} → Reader A → String → Answer A
-reads p text = p (lowered (bytes text)) 0
-
 -- an offset east and west of UTC
 abbrev east : ℕ → ℕ → Offset
 east h m = record { negative = false; hours = h; minutes = m }
@@ -29,13 +25,13 @@ east h m = record { negative = false; hours = h; minutes = m }
 abbrev west : ℕ → ℕ → Offset
 west h m = record { negative = true; hours = h; minutes = m }
 
-abbrev at_time : ℕ → ℕ → ℕ → ℕ → Option Offset → Time
+abbrev pub at_time : ℕ → ℕ → ℕ → ℕ → Option Offset → Time
 at_time h m s n o = record { hour = h; minute = m; second = s; nanosecond = n; offset = o }
 
 abbrev adjusted : Offset → ℤ → Normalized
 adjusted o z = record { offset = o; hour_adjustment = z }
 
--- Document 01, items/offset.rs: +25:00 is +23:00 and two hours earlier; 24:00 isn't moved; +23:60 is 86400 seconds.
+-- SCOPE, 'Zones' and 'Offsets and corrections': +25:00 is +23:00 and two hours earlier; 24:00 is not moved; +23:60 is 86400 seconds.
 normal : (normalized (east 25 0) ≡ adjusted (east 23 0) (negsuc 1)) × (normalized (west 25 30) ≡ adjusted (west 23 30) (pos 2))
     × (normalized (east 24 0) ≡ adjusted (east 24 0) (pos 0)) × (normalized (east 24 30) ≡ adjusted (east 23 30) (negsuc 0))
     × (normalized (west 23 60) ≡ adjusted (west 23 60) (pos 0)) × (total_seconds (east 23 60) ≡ pos 86400) × (total_seconds (west 5 30) ≡ negsuc 19799)
@@ -52,7 +48,7 @@ corrections : (reads time_zone_correction "+0530" ≡ matched (east 5 30) 5) × 
 unfolding lower lowered bytes blank digit letter run past some starts tag multispace0 closing inside comment no_digit sign ignored_hyphen_or_plus ignored skip space decimal parse_uint dec_uint_str dec_uint colon plus_or_minus zero_filled nanoseconds nonzero lost point_or_comma fraction in_range offset_of timezone_offset_colon digits_offset timezone_offset_colonless any_offset signed_fraction time_zone_correction
 corrections = (refl, refl, refl, refl, refl, refl, refl, refl, refl)
 
--- Document 01, items/offset.rs: what is in range, what stops, and zeros that are lost.
+-- SCOPE, 'Offsets and corrections': what is in range, what stops, and zeros that are lost.
 ranges : (reads time_zone_correction "+24:00" ≡ matched (east 24 0) 6) × (reads time_zone_correction "+24:01" ≡ stop)
     × (reads time_zone_correction "+23:60" ≡ matched (east 23 60) 6) × (reads time_zone_correction "+23:61" ≡ stop)
     × (reads time_zone_correction "+25" ≡ stop) × (reads time_zone_correction "-2401" ≡ stop) × (reads time_zone_correction "+2360" ≡ matched (east 23 60) 5)
@@ -80,7 +76,7 @@ manual : (reads parse "20:02:00.000000" ≡ matched (at_time 20 2 0 0 None) 15) 
 unfolding lower lowered bytes blank digit letter run past some starts tag multispace0 closing inside comment no_digit sign ignored_hyphen_or_plus ignored skip space decimal parse_uint dec_uint_str dec_uint colon plus_or_minus alpha1 same named zero_filled nanoseconds nonzero lost point_or_comma fraction sec_and_nsec signed signed_number ordinals text_ordinal number_ordinal ordinal direction rounded second_words second_word signed_seconds seconds days units stripped in_unit displaced displacement relative in_range offset_of timezone_offset_colon digits_offset timezone_offset_colonless any_offset signed_fraction time_zone_correction timezone_offset below hour24 hour12 minute second optional_second optional_minute optional_correction hour_offset clock iso meridiem am_pm_time parse
 manual = (refl, refl, refl, refl, refl, refl, refl, refl)
 
--- Document 01, items/time.rs: hour 0 with am or pm stops; ":60" is left unread. The spellings of am and pm.
+-- SCOPE, 'Times': hour 0 with am or pm stops; `:60` is left unread. The spellings of am and pm.
 corners : (reads parse "0am" ≡ stop) × (reads parse "00:30 p.m." ≡ stop) × (reads parse "10:00:60" ≡ matched (at_time 10 0 0 0 None) 5)
     × (reads parse "1 a.m." ≡ matched (at_time 1 0 0 0 None) 6) × (reads parse "11:59:59.5P.M." ≡ matched (at_time 23 59 59 500000000 None) 14)
     × (reads parse "13:00pm" ≡ matched (at_time 13 0 0 0 None) 5) × (reads parse "24:00" ≡ none) × (reads parse "10:60" ≡ none)
