@@ -5,17 +5,22 @@
 
 mod combined;
 
-ghost use Rattle.std.specs.Prelude.{◌≡◌};
+ghost use Rattle.std.specs.Prelude.{◌≡◌, ◌<◌, ◌≤◌, length, get_or};
 ghost use Rattle.primitive.specs.Text.{lowered};
+ghost use Rattle.primitive.specs.Primitive.{space};
 ghost use Rattle.primitive.specs.Answer.{answer_of, lossy_answer, lossy_stop_answer};
 ghost use Rattle.items.specs.Items.{dated_item, iso_date, iso_item, relative_item, time_or_relative, other_item, parse_item};
+ghost use Rattle.items.specs.Fronts.{word_item, day_or_time, day_or_relative};
 
 use dates::date::Date;
 use items::Item;
 use primitive::Miss;
 
-// The item at a place. The first byte after the space says what it can be: below `0` it begins no date and no time, and above `9` no ISO
-// date.
+// A date without marks has more digits.
+const FEW_DIGITS: usize = 4;
+
+// The item at a place. The first byte after the space says what it can be: below `0` it begins no date and no time, and above `9` only a
+// date whose month comes first.
 #[tactic(auto, using(items::proofs::Fronts::fronts))]
 pub fn parse_item(s: &[u8], at: usize) -> Result<(Item, usize, bool), Miss>
     ensures { lossy_stop_answer result ≡ parse_item (lowered s.now) at }
@@ -28,19 +33,79 @@ pub fn parse_item(s: &[u8], at: usize) -> Result<(Item, usize, bool), Miss>
         return relative_item(s, start).ok_or(Miss::NoMatch);
     }
     if b'9' < s[start] {
-        return other_item(s, at);
+        return word_item(s, start);
     }
-    number_item(s, at)
+    number_item(s, at, start)
 }
 
-// The same where it may begin with a number.
+// The same where it may begin with a number, by the byte that follows: after at most four digits a colon makes it a time, and a letter
+// leaves a day before a month's name, an hour before am or pm, and a relative item.
+#[tactic(auto, using(items::proofs::Fronts::followers))]
+fn number_item(s: &[u8], at: usize, start: usize) -> Result<(Item, usize, bool), Miss>
+    requires { (start ≡ space (lowered s.now) at) × (start < length s.now) × (get_or s.now start 0 ≤ 57) }
+    ensures { lossy_stop_answer result ≡ parse_item (lowered s.now) at }
+{
+    let end = primitive::digits(s, start);
+    let next = spaces::space(s, end);
+    if start + FEW_DIGITS < end {
+        return any_item(s, at);
+    }
+    if s.len() <= next {
+        return any_item(s, at);
+    }
+    if s[next] <= b'9' {
+        return any_item(s, at);
+    }
+    if s[next] == b':' {
+        return time_or_relative(s, start);
+    }
+    match primitive::to_lower(s[next]) {
+        b'a' => day_or_time(s, start),
+        b'p' => day_or_time(s, start),
+        _ => day_or_relative(s, start),
+    }
+}
+
 #[tactic(auto, unfolding(items::specs::Items::parse_item))]
-fn number_item(s: &[u8], at: usize) -> Result<(Item, usize, bool), Miss>
+fn any_item(s: &[u8], at: usize) -> Result<(Item, usize, bool), Miss>
     ensures { lossy_stop_answer result ≡ parse_item (lowered s.now) at }
 {
     match iso_item(s, at) {
         Err(Miss::NoMatch) => other_item(s, at),
         read => read,
+    }
+}
+
+// A date whose month comes first, or a relative item.
+#[tactic(auto, unfolding(items::specs::Fronts::word_item, items::specs::Fronts::month_item))]
+fn word_item(s: &[u8], at: usize) -> Result<(Item, usize, bool), Miss>
+    ensures { lossy_stop_answer result ≡ word_item (lowered s.now) at }
+{
+    match named_month_dates::month_first(s, at) {
+        Some((date, next)) => Ok((Item::Date(date), next, false)),
+        None => relative_item(s, at).ok_or(Miss::NoMatch),
+    }
+}
+
+// A date whose day comes first, or else a time or a relative item.
+#[tactic(auto, unfolding(items::specs::Fronts::day_or_time, items::specs::Fronts::day_item))]
+fn day_or_time(s: &[u8], at: usize) -> Result<(Item, usize, bool), Miss>
+    ensures { lossy_stop_answer result ≡ day_or_time (lowered s.now) at }
+{
+    match named_month_dates::literal1(s, at) {
+        Some((date, next)) => Ok((Item::Date(date), next, false)),
+        None => time_or_relative(s, at),
+    }
+}
+
+// A date whose day comes first, or else a relative item.
+#[tactic(auto, unfolding(items::specs::Fronts::day_or_relative, items::specs::Fronts::day_item))]
+fn day_or_relative(s: &[u8], at: usize) -> Result<(Item, usize, bool), Miss>
+    ensures { lossy_stop_answer result ≡ day_or_relative (lowered s.now) at }
+{
+    match named_month_dates::literal1(s, at) {
+        Some((date, next)) => Ok((Item::Date(date), next, false)),
+        None => relative_item(s, at).ok_or(Miss::NoMatch),
     }
 }
 

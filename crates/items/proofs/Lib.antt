@@ -1,5 +1,6 @@
 -- The laws and theorems of the crate `items`.
 pub mod Chain
+pub mod Numbers
 pub mod Fronts
 pub mod Theorems
 pub mod Examples

@@ -5,8 +5,9 @@
 
 ghost use Rattle.std.specs.Prelude.{◌≡◌};
 ghost use Rattle.primitive.specs.Text.{lowered};
-ghost use Rattle.primitive.specs.Answer.{answer_of};
+ghost use Rattle.primitive.specs.Answer.{answer_of, or_else};
 ghost use Rattle.dates.specs.Date.{literal1, literal2, literal3, literal};
+ghost use Rattle.named_month_dates.specs.Days.{spaced_day, hyphened_day};
 
 use dates::date::{Date, MonthDay};
 
@@ -14,14 +15,12 @@ use dates::date::{Date, MonthDay};
 pub fn literal(s: &[u8], at: usize) -> Option<(Date, usize)>
     ensures { answer_of result ≡ literal (lowered s.now) at }
 {
-    literal1(s, at)
-        .or_else(|| literal2(s, at))
-        .or_else(|| literal3(s, at))
+    literal1(s, at).or_else(|| month_first(s, at))
 }
 
 // `14 November 2022`, `14 Nov 2022`, `14nov2022`, `14-nov-2022`, `14-nov2022`, `14nov-2022`, `14 Nov`.
 #[tactic(auto, unfolding(dates::specs::Date::literal1))]
-fn literal1(s: &[u8], at: usize) -> Option<(Date, usize)>
+pub fn literal1(s: &[u8], at: usize) -> Option<(Date, usize)>
     ensures { answer_of result ≡ literal1 (lowered s.now) at }
 {
     let (day, at) = numbers::spaced_u8(s, at)?;
@@ -29,22 +28,27 @@ fn literal1(s: &[u8], at: usize) -> Option<(Date, usize)>
     date_parts::hyphen_dated(s, at, MonthDay { month, day })
 }
 
-// `November 14, 2022`, `Nov 14, 2022`, `Nov 14 2022`, `Nov 14`.
-#[tactic(auto, unfolding(dates::specs::Date::literal2))]
-fn literal2(s: &[u8], at: usize) -> Option<(Date, usize)>
-    ensures { answer_of result ≡ literal2 (lowered s.now) at }
+// A date that begins with the name of a month, which is read once.
+#[tactic(auto, using(crate::proofs::Shared::shared), unfolding(dates::specs::Date::literal2, dates::specs::Date::literal3))]
+pub fn month_first(s: &[u8], at: usize) -> Option<(Date, usize)>
+    ensures { answer_of result ≡ or_else (literal2 (lowered s.now) at) (literal3 (lowered s.now) at) }
 {
     let (month, at) = month_names::spaced_month(s, at)?;
+    spaced_day(s, at, month).or_else(|| hyphened_day(s, at, month))
+}
+
+// The day after the month: `November 14, 2022`, `Nov 14, 2022`, `Nov 14 2022`, `Nov 14`.
+fn spaced_day(s: &[u8], at: usize, month: u8) -> Option<(Date, usize)>
+    ensures { answer_of result ≡ spaced_day month (lowered s.now) at }
+{
     let (day, at) = numbers::spaced_u8(s, at)?;
     date_parts::comma_dated(s, at, MonthDay { month, day })
 }
 
-// `November-14-2022` and `Nov-14-2022`. Unlike in `literal2` the year is always there.
-#[tactic(auto, unfolding(dates::specs::Date::literal3))]
-fn literal3(s: &[u8], at: usize) -> Option<(Date, usize)>
-    ensures { answer_of result ≡ literal3 (lowered s.now) at }
+// The day between hyphens: `November-14-2022` and `Nov-14-2022`. Unlike in `spaced_day` the year is always there.
+fn hyphened_day(s: &[u8], at: usize, month: u8) -> Option<(Date, usize)>
+    ensures { answer_of result ≡ hyphened_day month (lowered s.now) at }
 {
-    let (month, at) = month_names::spaced_month(s, at)?;
     let at = spaces::spaced_byte(s, at, b'-')?;
     let (day, at) = numbers::spaced_u8(s, at)?;
     let at = spaces::spaced_byte(s, at, b'-')?;

@@ -96,13 +96,16 @@ within_text s i h = go (dec_lt i (length s))
     go (no l) = let z = get_or-eq_default s 0 {n = i} (omega arith) in absurd (omega arith)
 
 -- space begins at no digit
+pub digit_here : (s : List ℕ) (at : ℕ) → digit (get_or (lowered s) at 0) ≡ true → at ≡ space (lowered s) at
+digit_here s at e =
+    let z = digit_above (get_or s at 0) (sym (digit_lower (get_or s at 0)) ∙ (rw (get_or_lowered s at) at e)) in
+    space_above s at (within_text s at (omega arith)) (omega arith)
+
 pub digit_in_front : (s : List ℕ) (at : ℕ) → digit (get_or (lowered s) (space (lowered s) at) 0) ≡ false → digit (get_or (lowered s) at 0) ≡ false
 digit_in_front s at f = go (digit (get_or (lowered s) at 0)) refl
   where
     go : (t : Bool) → digit (get_or (lowered s) at 0) ≡ t → digit (get_or (lowered s) at 0) ≡ false
-    go true e =
-        let z = digit_above (get_or s at 0) (sym (digit_lower (get_or s at 0)) ∙ (rw (get_or_lowered s at) at e)) in
-        rw (← space_above s at (within_text s at (omega arith)) (omega arith)) at f
+    go true e = rw (← digit_here s at e) at f
     go false e = e
 
 -- ---- space ends where no more space is

@@ -1,0 +1,2 @@
+-- The definitions of the crate `named_month_dates`.
+pub mod Days
