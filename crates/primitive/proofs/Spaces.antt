@@ -14,6 +14,7 @@ use Rattle.primitive.proofs.Lowered.{length_lowered, get_or_lowered, beyond, res
 use Rattle.primitive.proofs.Runs.{past_end, past_here, past_more}
 use Rattle.primitive.proofs.Comments.{inside_within, inside_done, inside_found, inside_next}
 use Rattle.primitive.proofs.Forward.{tag_ends, then_forward, multispace0_forward, no_digit_forward, past_onward}
+use borrow.Author.Rules.{rules}
 use Rattle.primitive.proofs.Chain.{chain}
 use Rattle.std.specs.Prelude.{Option, Some, None}
 use Rattle.primitive.proofs.Dropped.{drops_never}
@@ -194,6 +195,11 @@ module _ (s : List ℕ) (at : ℕ) where
   pub space_above : at < length s → 45 < get_or s at 0 → at ≡ space (lowered s) at
   space_above h g = skip_above s at at (skip_start s at at (sym (past_here blank s at h (lower (get_or s at 0)) refl (blank_above s at h g)))) h g
 
+  -- a blank is passed over
+  pub blank_passed : at < length s → get_or s at 0 ≡ 32 → space (lowered s) at ≡ space (lowered s) (at + 1)
+  unfolding space lower blank
+  blank_passed h e = rw (past_more blank s at h 32 (rw e) refl)
+
   pub space_blank : at < length s → get_or s at 0 ≡ 32 → at + 1 < length s → 45 < get_or s (at + 1) 0 → at + 1 ≡ space (lowered s) at
   unfolding lower blank
   space_blank h e k g =
@@ -226,6 +232,10 @@ module _ (s : List ℕ) (at : ℕ) (h : at < length s) (g : at + 1 < length s) (
   unfolding lower tag starts
   hyphen_at_once e = rw (← hyphen_kept e, rest_cons s at h 45 (rw e))
 
+-- a blank before such a sign
+pub blank_sign : (s : List ℕ) (at : ℕ) → at < length s → get_or s at 0 ≡ 32 → at + 1 ≡ space (lowered s) (at + 1) → at + 1 ≡ space (lowered s) at
+blank_sign s at h e f = rw (blank_passed s at h e) f
+
 -- where it is not there, nothing is said
 pub unsaid : {A : Type 0} → ◌≡◌ {A = Bool} false true → A
 unsaid e = let z : ◌≡◌ {A = ℕ} 0 1 = cc in absurd (clash z)
@@ -237,7 +247,10 @@ skip_less s i n m r h e k g =
     let x = y.0 in
     omega arith
 
-pub ruleset spaces = (blanks_then, digit_there, no_digit_there, nothing_there, skip_start, skip_done, skip_above, skip_stop, skip_next, skip_less, space_end, space_above, space_blank, hyphen_at_once, chain)
+pub ruleset spaces = (blanks_then, digit_there, no_digit_there, nothing_there, skip_start, skip_done, skip_above, skip_stop, skip_next, skip_less, hyphen_at_once, chain)
+
+-- the quick ways of `space`
+pub ruleset ends = (space_end, space_above, space_blank, blank_sign, rules)
 
 -- ---- the loop of `comment`
 

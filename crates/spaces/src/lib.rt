@@ -8,8 +8,8 @@ ghost use Rattle.primitive.specs.Text.{lowered, byte, tag};
 ghost use Rattle.primitive.specs.Answer.{answer_of, place_answer};
 ghost use Rattle.primitive.specs.Primitive.{comment, ignored_hyphen_or_plus, ignored, space, spaced, colon, plus_or_minus};
 
-// The end of the space at a place.
-#[tactic(auto, using(primitive::proofs::Spaces::spaces))]
+// The end of the space at a place. No byte above the hyphen begins any.
+#[tactic(auto, using(primitive::proofs::Spaces::ends))]
 pub fn space(s: &[u8], at: usize) -> usize
     ensures { result ≡ space (lowered s.now) at }
 {
@@ -28,8 +28,26 @@ pub fn space(s: &[u8], at: usize) -> usize
             }
         }
     }
+    low_space(s, at)
+}
+
+// The same where a low byte follows. A sign with a digit after it ends the space, and so it does after a blank. Inlined, it would have `space`
+// save registers on its quick ways too: 10 instructions a call.
+#[inline(never)]
+#[tactic(auto, using(primitive::proofs::Spaces::ends))]
+fn low_space(s: &[u8], at: usize) -> usize
+    ensures { result ≡ space (lowered s.now) at }
+{
     if signed_digit(s, at) {
         return at;
+    }
+    if at < s.len() {
+        if s[at] == b' ' {
+            let next = at + 1;
+            if signed_digit(s, next) {
+                return next;
+            }
+        }
     }
     skip_space(s, at)
 }
@@ -54,8 +72,7 @@ fn signed_digit(s: &[u8], at: usize) -> bool
     false
 }
 
-// The end of the space and comments at a place. No byte above the hyphen begins any. Inlined, it would have `space` save registers on its
-// quick ways too: 10 instructions a call.
+// The end of the space and comments at a place.
 #[inline(never)]
 #[tactic(auto, using(primitive::proofs::Spaces::spaces))]
 fn skip_space(s: &[u8], at: usize) -> usize
