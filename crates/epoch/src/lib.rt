@@ -31,7 +31,7 @@ pub fn fraction(s: &[u8], at: usize) -> Option<(u32, usize, bool)>
 }
 
 #[tactic(auto, unfolding(primitive::specs::Epoch::point_or_comma))]
-fn point_or_comma(s: &[u8], at: usize) -> Option<usize>
+pub fn point_or_comma(s: &[u8], at: usize) -> Option<usize>
     ensures { place_answer result ≡ point_or_comma (lowered s.now) at }
 {
     primitive::byte(s, at, b'.').or_else(|| primitive::byte(s, at, b','))

@@ -139,12 +139,17 @@ signed_negatable true (suc k) h = omega arith
 signed_negatable false zero h = omega arith
 signed_negatable false (suc k) h = omega arith
 
+-- an ordinal of the table
+pub named_range : (w text : List ℕ) (at n : ℕ) (v : ℤ) → named ordinals w text at ≡ matched v n → mag (neg_ℤ v) < 2 ^ 31
+unfolding ordinals every
+named_range w text at n v e = ltb-true (mag (neg_ℤ v)) 2147483648 (named_every negatable w text at n v ordinals refl e)
+
 text_range : (text : List ℕ) (at n : ℕ) (v : ℤ) → text_ordinal text at ≡ matched v n → mag (neg_ℤ v) < 2147483648
-unfolding text_ordinal ordinals every
+unfolding text_ordinal
 text_range text at n v = go (alpha1 text (space text at))
   where
     go : (a : Answer (List ℕ)) → and_then a (λ w m. named ordinals w text m) ≡ matched v n → mag (neg_ℤ v) < 2147483648
-    go (matched w m) e = ltb-true (mag (neg_ℤ v)) 2147483648 (named_every negatable w text m n v ordinals refl e)
+    go (matched w m) e = named_range w text m n v e
     go (dropped w m) e = absurd (drops_never (named ordinals w text m) v n e)
     go none e = let z : ◌≡◌ {A = ℕ} 0 1 = cc in absurd (clash z)
     go stop e = let z : ◌≡◌ {A = ℕ} 0 1 = cc in absurd (clash z)

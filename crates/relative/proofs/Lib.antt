@@ -1,5 +1,6 @@
 pub mod Chain
 pub mod Spaced
+pub mod Fronts
 pub mod Signed
 pub mod Units
 pub mod Examples

@@ -1,2 +1,3 @@
 -- The definitions of the crate `relative`.
 pub mod Relative
+pub mod Fronts

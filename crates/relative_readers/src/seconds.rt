@@ -3,16 +3,17 @@
 // Seconds may have a fraction. With a minus they are rounded toward minus infinity, so that the nanoseconds are never below 0. The reader also
 // returns whether the fraction lost a digit.
 
-ghost use Rattle.std.specs.Prelude.{◌≡◌, ◌<◌, ◌^◌, not, cond};
-ghost use Rattle.primitive.specs.Answer.{matched, place_answer, lossy_answer};
+ghost use Rattle.std.specs.Prelude.{◌≡◌, ◌<◌, ◌^◌, ℕ, List, not, cond};
+ghost use Rattle.primitive.specs.Answer.{matched, found_at, place_answer, lossy_answer};
 ghost use Rattle.primitive.specs.Text.{lowered};
-ghost use Rattle.relative.specs.Relative.{seconds, signed_seconds, second_word, rounded, direction};
+ghost use Rattle.primitive.specs.Primitive.{named};
+ghost use Rattle.relative.specs.Relative.{seconds, signed_seconds, second_words, second_word, rounded, direction};
 
 use primitive::SecAndNsec;
 use relative::Relative;
 
 // The largest i64.
-const MOST_SECONDS: u64 = 9223372036854775807;
+pub(crate) const MOST_SECONDS: u64 = 9223372036854775807;
 
 // Seconds in digits, with a sign or without one.
 #[tactic(auto, unfolding(relative::specs::Relative::seconds))]
@@ -40,25 +41,32 @@ fn signed_seconds(s: &[u8], at: usize, negative: bool) -> Option<(Relative, usiz
 const SECOND_WORDS: [(&str, ()); 4] = [("seconds", ()), ("second", ()), ("sec", ()), ("secs", ())];
 
 // A word for seconds, after space.
-#[tactic(auto, unfolding(relative::specs::Relative::second_word))]
+#[tactic(auto, using(relative::proofs::Chain::relatives), unfolding(relative::specs::Relative::second_word))]
 fn second_word(s: &[u8], at: usize) -> Option<usize>
     ensures { place_answer result ≡ second_word (lowered s.now) at }
 {
     let start = spaces::space(s, at);
     let (word, end) = primitive::alpha1(s, start)?;
-    words::find_value(word, &SECOND_WORDS)?;
+    second_named(word)?;
     Some(end)
 }
 
+// Whether a word is one for seconds.
+pub(crate) fn second_named(word: &[u8]) -> Option<()>
+    ensures { (text : List ℕ) (at : ℕ) → found_at at result ≡ named second_words (lowered word.now) text at }
+{
+    words::find_value(word, &SECOND_WORDS)
+}
+
 // Whether the sign is a minus after `ago` has negated it.
-fn turned(ago: bool, negative: bool) -> bool
+pub(crate) fn turned(ago: bool, negative: bool) -> bool
     ensures { result ≡ cond ago (not negative) negative }
 {
     if ago { !negative } else { negative }
 }
 
 // Seconds and nanoseconds with a sign. Rounds toward minus infinity: -1.5 s is -2 s plus 500000000 ns.
-fn rounded(negative: bool, v: SecAndNsec<u64>) -> Relative
+pub(crate) fn rounded(negative: bool, v: SecAndNsec<u64>) -> Relative
     requires { (v.sec < 2 ^ 63) × (v.nsec < 1000000000) }
     ensures { result ≡ rounded negative v }
 {
@@ -79,8 +87,9 @@ fn rounded(negative: bool, v: SecAndNsec<u64>) -> Relative
 pub fn direction(s: &[u8], at: usize) -> (bool, usize)
     ensures { matched result.0 result.1 ≡ direction (lowered s.now) at }
 {
-    if let Some(next) = spaces::spaced_tag(s, at, b"ago") {
+    let start = spaces::space(s, at);
+    if let Some(next) = primitive::tag(s, start, b"ago") {
         return (true, next);
     }
-    (false, spaces::spaced_tag(s, at, b"hence").unwrap_or(at))
+    (false, primitive::tag(s, start, b"hence").unwrap_or(at))
 }

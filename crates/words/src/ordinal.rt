@@ -1,9 +1,10 @@
 // Ordinal numbers, in words or in digits, as in items/ordinal.rs.
 
-ghost use Rattle.std.specs.Prelude.{◌≡◌};
+ghost use Rattle.std.specs.Prelude.{◌≡◌, ℕ, List};
 ghost use Rattle.primitive.specs.Text.{lowered};
-ghost use Rattle.primitive.specs.Answer.{answer_of};
-ghost use Rattle.primitive.specs.Ordinal.{text_ordinal, number_ordinal, ordinal};
+ghost use Rattle.primitive.specs.Answer.{answer_of, found_at};
+ghost use Rattle.primitive.specs.Primitive.{named};
+ghost use Rattle.primitive.specs.Ordinal.{ordinals, text_ordinal, number_ordinal, ordinal};
 
 // A word or, where there is none that is an ordinal, a number.
 #[tactic(auto, unfolding(primitive::specs::Ordinal::ordinal))]
@@ -41,12 +42,19 @@ const ORDINALS: [(&str, i32); 14] = [
 ];
 
 // A word of the table, after space.
-#[tactic(auto, unfolding(primitive::specs::Ordinal::text_ordinal))]
+#[tactic(auto, using(primitive::proofs::Spaced::spaced_chain), unfolding(primitive::specs::Ordinal::text_ordinal))]
 fn text_ordinal(s: &[u8], at: usize) -> Option<(i32, usize)>
     ensures { answer_of result ≡ text_ordinal (lowered s.now) at }
 {
     let start = spaces::space(s, at);
     let (word, end) = primitive::alpha1(s, start)?;
-    let n = crate::find_value(word, &ORDINALS)?;
+    let n = ordinal_named(word)?;
     Some((n, end))
+}
+
+// The ordinal that a word names.
+pub fn ordinal_named(word: &[u8]) -> Option<i32>
+    ensures { (text : List ℕ) (at : ℕ) → found_at at result ≡ named ordinals (lowered word.now) text at }
+{
+    crate::find_value(word, &ORDINALS)
 }

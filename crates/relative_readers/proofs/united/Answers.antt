@@ -1,4 +1,4 @@
--- `displaced` is its definition's chain: a word, a direction, and the unit of the word.
+-- `united` is its definition's chain: a direction, and the unit of the word.
 use mathlib.Core.Bool.{cond}
 use mathlib.Core.Path.{◌≡◌}
 use lib.IntN.{neg_ℤ}
@@ -8,15 +8,11 @@ use mir.Facts.{to_z-of_z}
 use Rattle.primitive.specs.Text.{lowered}
 use Rattle.relative.proofs.Signed.{turned_fits}
 use Rattle.relative.proofs.Units.{turned}
-use Rattle.relative.specs.Relative.{displaced}
-use Rattle.relative_readers.proofs.displaced.Goals as goal
-
-pub returns-in_err-word : goal.returns-in_err-word
-unfolding displaced
-returns-in_err-word c = search turned
+use Rattle.relative.specs.Fronts.{united}
+use Rattle.relative_readers.proofs.united.Goals as goal
 
 pub returns : goal.returns
-unfolding displaced
+unfolding united
 returns c =
     let s = c in
     let m = c.multiplier.result in
