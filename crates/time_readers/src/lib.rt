@@ -7,9 +7,10 @@
 #![tactic(auto)]
 
 ghost use Rattle.std.specs.Prelude.{◌≡◌, ◌+◌, ◌%◌, cond};
-ghost use Rattle.primitive.specs.Answer.{matched, carry, answer_of, stop_answer, lossy_answer, lossy_stop_answer};
+ghost use Rattle.primitive.specs.Answer.{matched, carry, or_else, answer_of, stop_answer, lossy_answer, lossy_stop_answer};
 ghost use Rattle.primitive.specs.Text.{lowered};
-ghost use Rattle.times.specs.Time.{below, second, optional_second, optional_minute, optional_correction, offset_behind, minutes_behind, iso, meridiem, am_pm_time, parse};
+ghost use Rattle.times.specs.Time.{below, second, optional_second, optional_correction, offset_behind, minutes_behind, iso, meridiem, parse};
+ghost use Rattle.times.specs.Fronts.{half_day, whole_day, hour_alone, hour_minute, am_or_pm};
 
 use primitive::{Miss, SecAndNsec};
 use times::offset::Offset;
@@ -24,14 +25,116 @@ struct Seconds {
     next: usize,
 }
 
-#[tactic(auto, using(times::proofs::Times::times), unfolding(times::specs::Time::parse))]
+impl Seconds {
+    fn sec_and_nsec(self) -> SecAndNsec<u8>
+        ensures { result ≡ record { sec = self.second; nsec = self.nanosecond } }
+    {
+        SecAndNsec {
+            sec: self.second,
+            nsec: self.nanosecond,
+        }
+    }
+}
+
+// A time in 24 hours or in 12 hours. The hour, the minute and the second are read once for both.
+#[tactic(auto, using(times::proofs::Fronts::fronts))]
 pub fn parse(s: &[u8], at: usize) -> Result<(Time, usize, bool), Miss>
     ensures { lossy_stop_answer result ≡ parse (lowered s.now) at }
 {
-    match am_pm_time(s, at) {
-        Err(Miss::NoMatch) => iso(s, at),
+    let (hour, at) = below(s, at, 24).ok_or(Miss::NoMatch)?;
+    match spaces::colon(s, at) {
+        Some(next) => hour_minute(s, next, hour),
+        None => hour_alone(s, at, hour),
+    }
+}
+
+// What follows an hour without a colon: am or pm, or else an offset.
+#[tactic(auto, using(times::proofs::Times::times), unfolding(times::specs::Fronts::hour_alone))]
+fn hour_alone(s: &[u8], at: usize, hour: u8) -> Result<(Time, usize, bool), Miss>
+    ensures { lossy_stop_answer result ≡ hour_alone hour (lowered s.now) at }
+{
+    match half_day(s, at, hour, 0, SecAndNsec { sec: 0, nsec: 0 }) {
+        Ok((time, next)) => Ok((time, next, false)),
+        Err(Miss::NoMatch) => hour_offset(s, at, hour),
+        Err(miss) => Err(miss),
+    }
+}
+
+// What follows an hour and a colon: minutes, seconds or none, and then am or pm, or else a correction or none.
+#[tactic(auto, using(times::proofs::Times::times), unfolding(times::specs::Time::minute, times::specs::Fronts::hour_minute))]
+fn hour_minute(s: &[u8], at: usize, hour: u8) -> Result<(Time, usize, bool), Miss>
+    ensures { lossy_stop_answer result ≡ hour_minute hour (lowered s.now) at }
+{
+    let (minute, at) = below(s, at, 60).ok_or(Miss::NoMatch)?;
+    let v = optional_second(s, at);
+    let (time, next) = half_or_whole_day(s, v.next, hour, minute, v.sec_and_nsec())?;
+    Ok((time, next, v.dropped))
+}
+
+#[tactic(auto, using(times::proofs::Times::times))]
+fn half_or_whole_day(
+    s: &[u8],
+    at: usize,
+    hour: u8,
+    minute: u8,
+    v: SecAndNsec<u8>,
+) -> Result<(Time, usize), Miss>
+    ensures { stop_answer result ≡ or_else (half_day hour minute v (lowered s.now) at) (whole_day hour minute v (lowered s.now) at) }
+{
+    match half_day(s, at, hour, minute, v) {
+        Err(Miss::NoMatch) => whole_day(s, at, hour, minute, v),
         read => read,
     }
+}
+
+// am or pm, where the hour is one of 12. Hour 0 stops.
+#[tactic(auto, using(times::proofs::Times::times), unfolding(times::specs::Fronts::half_day))]
+fn half_day(
+    s: &[u8],
+    at: usize,
+    hour: u8,
+    minute: u8,
+    v: SecAndNsec<u8>,
+) -> Result<(Time, usize), Miss>
+    ensures { stop_answer result ≡ half_day hour minute v (lowered s.now) at }
+{
+    if 12 < hour {
+        return Err(Miss::NoMatch);
+    }
+    let (pm, next) = meridiem(s, at).ok_or(Miss::NoMatch)?;
+    if hour == 0 {
+        return Err(Miss::Stop);
+    }
+    let time = Time {
+        hour: hour_of(hour, pm),
+        minute,
+        second: v.sec,
+        nanosecond: v.nsec,
+        offset: None,
+    };
+    Ok((time, next))
+}
+
+// A correction or none.
+#[tactic(auto, using(times::proofs::Times::times), unfolding(times::specs::Fronts::whole_day))]
+fn whole_day(
+    s: &[u8],
+    at: usize,
+    hour: u8,
+    minute: u8,
+    v: SecAndNsec<u8>,
+) -> Result<(Time, usize), Miss>
+    ensures { stop_answer result ≡ whole_day hour minute v (lowered s.now) at }
+{
+    let (offset, next) = optional_correction(s, at)?;
+    let time = Time {
+        hour,
+        minute,
+        second: v.sec,
+        nanosecond: v.nsec,
+        offset,
+    };
+    Ok((time, next))
 }
 
 // A time in 24 hours: an hour, and minutes behind a colon or else an offset.
@@ -62,20 +165,13 @@ fn hour_offset(s: &[u8], at: usize, hour: u8) -> Result<(Time, usize, bool), Mis
 }
 
 // The minutes behind an hour and a colon, then seconds or none, then a correction or none.
-#[tactic(auto, unfolding(times::specs::Time::minute))]
+#[tactic(auto, using(times::proofs::Times::times), unfolding(times::specs::Time::minute, times::specs::Fronts::whole_day))]
 fn clock(s: &[u8], at: usize, hour: u8) -> Result<(Time, usize, bool), Miss>
     ensures { lossy_stop_answer result ≡ minutes_behind hour (lowered s.now) at }
 {
     let (minute, at) = below(s, at, 60).ok_or(Miss::NoMatch)?;
     let v = optional_second(s, at);
-    let (offset, next) = optional_correction(s, v.next)?;
-    let time = Time {
-        hour,
-        minute,
-        second: v.second,
-        nanosecond: v.nanosecond,
-        offset,
-    };
+    let (time, next) = whole_day(s, v.next, hour, minute, v.sec_and_nsec())?;
     Ok((time, next, v.dropped))
 }
 
@@ -91,28 +187,6 @@ fn optional_correction(s: &[u8], at: usize) -> Result<(Option<Offset>, usize), M
     }
 }
 
-// A time that ends with am or pm.
-#[tactic(auto, using(times::proofs::Times::times), unfolding(times::specs::Time::am_pm_time, times::specs::Time::hour12))]
-fn am_pm_time(s: &[u8], at: usize) -> Result<(Time, usize, bool), Miss>
-    ensures { lossy_stop_answer result ≡ am_pm_time (lowered s.now) at }
-{
-    let (hour, at) = below(s, at, 13).ok_or(Miss::NoMatch)?;
-    let (minute, at) = optional_minute(s, at);
-    let v = optional_second(s, at);
-    let (pm, next) = meridiem(s, v.next).ok_or(Miss::NoMatch)?;
-    if hour == 0 {
-        return Err(Miss::Stop);
-    }
-    let time = Time {
-        hour: hour_of(hour, pm),
-        minute,
-        second: v.second,
-        nanosecond: v.nanosecond,
-        offset: None,
-    };
-    Ok((time, next, v.dropped))
-}
-
 // The hour of the day: 12 comes before 1, in each half.
 fn hour_of(hour: u8, pm: bool) -> u8
     ensures { result ≡ hour % 12 + cond pm 12 0 }
@@ -121,27 +195,33 @@ fn hour_of(hour: u8, pm: bool) -> u8
 }
 
 // am or pm, after space.
-#[tactic(auto, using(times::proofs::Times::times), unfolding(times::specs::Time::meridiem, primitive::specs::Text::bytes))]
+#[tactic(auto, using(times::proofs::Fronts::meridiems), unfolding(times::specs::Time::meridiem))]
 fn meridiem(s: &[u8], at: usize) -> Option<(bool, usize)>
     ensures { answer_of result ≡ meridiem (lowered s.now) at }
 {
     let start = spaces::space(s, at);
-    let am = primitive::tag(s, start, b"am").or_else(|| primitive::tag(s, start, b"a.m."));
+    if s.len() <= start {
+        return None;
+    }
+    let letter = primitive::to_lower(s[start]);
+    if letter != b'a' {
+        if letter != b'p' {
+            return None;
+        }
+    }
+    am_or_pm(s, start)
+}
+
+#[tactic(auto, using(times::proofs::Times::times), unfolding(primitive::specs::Text::bytes))]
+fn am_or_pm(s: &[u8], at: usize) -> Option<(bool, usize)>
+    ensures { answer_of result ≡ am_or_pm (lowered s.now) at }
+{
+    let am = primitive::tag(s, at, b"am").or_else(|| primitive::tag(s, at, b"a.m."));
     if let Some(next) = am {
         return Some((false, next));
     }
-    let next = primitive::tag(s, start, b"pm").or_else(|| primitive::tag(s, start, b"p.m."))?;
+    let next = primitive::tag(s, at, b"pm").or_else(|| primitive::tag(s, at, b"p.m."))?;
     Some((true, next))
-}
-
-// Minutes behind a colon, or 0 where there are none.
-#[tactic(auto, using(times::proofs::Times::times), unfolding(times::specs::Time::optional_minute, times::specs::Time::minute))]
-fn optional_minute(s: &[u8], at: usize) -> (u8, usize)
-    ensures { matched result.0 result.1 ≡ optional_minute (lowered s.now) at }
-{
-    spaces::colon(s, at)
-        .and_then(|start| below(s, start, 60))
-        .unwrap_or((0, at))
 }
 
 // Seconds after a colon, or 0 where there are none.

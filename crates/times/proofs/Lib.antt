@@ -3,6 +3,8 @@ pub mod Signed
 pub mod Offsets
 pub mod Times
 pub mod Hours
+pub mod Minutes
+pub mod Fronts
 pub mod Examples
 pub mod Forms
 pub mod Forward

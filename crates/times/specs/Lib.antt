@@ -1,3 +1,4 @@
 -- The definitions of the crate `times`.
 pub mod Offset
 pub mod Time
+pub mod Fronts
