@@ -6,11 +6,11 @@
 mod combined;
 
 ghost use Rattle.std.specs.Prelude.{◌≡◌, ◌<◌, ◌≤◌, length, get_or};
-ghost use Rattle.primitive.specs.Text.{lowered};
+ghost use Rattle.primitive.specs.Text.{lowered, digit, past};
 ghost use Rattle.primitive.specs.Primitive.{space};
 ghost use Rattle.primitive.specs.Answer.{answer_of, lossy_answer, lossy_stop_answer};
 ghost use Rattle.items.specs.Items.{dated_item, iso_date, iso_item, relative_item, time_or_relative, other_item, parse_item};
-ghost use Rattle.items.specs.Fronts.{word_item, day_or_time, day_or_relative};
+ghost use Rattle.items.specs.Fronts.{word_item, day_or_time, day_or_relative, compact_item, unhyphened_item};
 
 use dates::date::Date;
 use items::Item;
@@ -48,7 +48,7 @@ fn number_item(s: &[u8], at: usize, start: usize) -> Result<(Item, usize, bool),
     let end = primitive::digits(s, start);
     let next = spaces::space(s, end);
     if start + FEW_DIGITS < end {
-        return any_item(s, at);
+        return long_number_item(s, at, start, end, next);
     }
     if s.len() <= next {
         return any_item(s, at);
@@ -64,6 +64,46 @@ fn number_item(s: &[u8], at: usize, start: usize) -> Result<(Item, usize, bool),
         b'p' => day_or_time(s, start),
         _ => day_or_relative(s, start),
     }
+}
+
+// The same where the number may be a date without marks. Only with a hyphen after it is it a year.
+#[tactic(auto, using(items::proofs::Fronts::hyphens))]
+fn long_number_item(
+    s: &[u8],
+    at: usize,
+    start: usize,
+    end: usize,
+    next: usize,
+) -> Result<(Item, usize, bool), Miss>
+    requires { (start ≡ space (lowered s.now) at) × (end ≡ past digit (lowered s.now) start) × (next ≡ space (lowered s.now) end) }
+    ensures { lossy_stop_answer result ≡ parse_item (lowered s.now) at }
+{
+    if s.len() <= next {
+        return unhyphened_item(s, at);
+    }
+    if s[next] == b'-' {
+        return any_item(s, at);
+    }
+    unhyphened_item(s, at)
+}
+
+// A date without marks, with a time or alone, or another item.
+#[tactic(auto, unfolding(items::specs::Fronts::unhyphened_item))]
+fn unhyphened_item(s: &[u8], at: usize) -> Result<(Item, usize, bool), Miss>
+    ensures { lossy_stop_answer result ≡ unhyphened_item (lowered s.now) at }
+{
+    match compact_item(s, at) {
+        Err(Miss::NoMatch) => other_item(s, at),
+        read => read,
+    }
+}
+
+#[tactic(auto, unfolding(items::specs::Fronts::compact_item))]
+fn compact_item(s: &[u8], at: usize) -> Result<(Item, usize, bool), Miss>
+    ensures { lossy_stop_answer result ≡ compact_item (lowered s.now) at }
+{
+    let (date, next) = date_readers::iso2(s, at).ok_or(Miss::NoMatch)?;
+    dated_item(s, next, date)
 }
 
 #[tactic(auto, unfolding(items::specs::Items::parse_item))]

@@ -2,16 +2,17 @@
 -- that a colon follows begins no date; one that a letter follows is a day before a month's name, an hour before am or pm, or a relative item.
 -- Assumes nothing.
 use borrow.Author.Tests.{lt-leb}
+use native.Mathlib.Decide.{dec_lt}
 use native.Mathlib.Omega.{arith}
 use Prim.Native.Nat.{ℕ, ◌+◌, ◌<◌, ◌≤◌}
 use mathlib.Core.Path.{◌≡◌, refl, sym, ◌∙◌}
 use mathlib.Core.List.{List, [], ◌∷◌}
 use mathlib.Core.Bool.{Bool, true, false}
-use lib.ListN.{length, get_or}
+use lib.ListN.{length, get_or, get_or-eq_default}
 use Rattle.primitive.specs.Answer.{Answer, matched, dropped, none, stop, and_then, or_else}
 use Rattle.primitive.specs.Text.{lower, lowered, bytes, digit, letter, past, tag}
 use Rattle.primitive.specs.Primitive.{sign, space, colon, plus_or_minus}
-use Rattle.primitive.proofs.Lowered.{get_or_lowered, lower_above}
+use Rattle.primitive.proofs.Lowered.{get_or_lowered, lower_above, beyond}
 use Rattle.primitive.proofs.Fronts.{str_else, number_else, word_else, tag_else, below_digits, above_digits, beyond_text, digit_here, digit_in_front, space_again}
 use Rattle.relative.proofs.Spaced.{parse_behind}
 use Rattle.dates.specs.Year.{year_str}
@@ -21,7 +22,7 @@ use Rattle.times.specs.Time.{below, hour24, hour12, hour_offset, clock, iso, opt
 use Rattle.times.proofs.Chain.{nothing_left}
 use Rattle.relative.specs.Relative as relative
 use Rattle.items.specs.Items.{iso_date, iso_item, date_item, time_item, relative_item, time_or_relative, other_item, parse_item}
-use Rattle.items.specs.Fronts.{month_item, word_item, day_item, day_or_time, day_or_relative}
+use Rattle.items.specs.Fronts.{month_item, word_item, day_item, day_or_time, day_or_relative, compact_item, unhyphened_item}
 use Rattle.items.specs.declared.Item.{Item}
 use Rattle.items.specs.declared.Item.TheVariants as item
 use Rattle.dates.specs.declared.date.Date.{Date}
@@ -85,14 +86,18 @@ module _ (s : List ℕ) (at : ℕ) (f : digit (get_or (lowered s) (space (lowere
     unfolding other_item time_or_relative
     relative_alone a e = other_alone a (rw (no_date, no_time) e)
 
+-- without a hyphen after a number the date is one without marks
+unhyphened : (s : List ℕ) (at end : ℕ) → end ≡ past digit (lowered s) (space (lowered s) at) → (get_or (lowered s) (space (lowered s) end) 0 ≡ 45 → ⊥) → iso1 (lowered s) at ≡ none
+unfolding iso1 year_str
+unhyphened s at end e f = fails _ _ (digits_at (lowered s) (space (lowered s) at)) _ (λ w. rw (← e, tag_else (lowered s) (space (lowered s) end) 45 [] f))
+
 -- A number in front, and after it and the space a byte that is above `/`: no sign and no mark of a date but a letter or a colon.
 module _ (s : List ℕ) (at end : ℕ) (e : end ≡ past digit (lowered s) (space (lowered s) at)) (h : 47 < get_or (lowered s) (space (lowered s) end) 0) where
   no_mark : (c : ℕ) (cs : List ℕ) → (get_or (lowered s) (space (lowered s) end) 0 ≡ c → ⊥) → tag (c ∷ cs) (lowered s) (space (lowered s) (past digit (lowered s) (space (lowered s) at))) ≡ none
   no_mark c cs f = rw (← e) (tag_else (lowered s) (space (lowered s) end) c cs f)
 
   no_iso1 : iso1 (lowered s) at ≡ none
-  unfolding iso1 year_str
-  no_iso1 = fails _ _ (digits_at (lowered s) (space (lowered s) at)) _ (λ w. rw (no_mark 45 [] (λ y. omega arith)))
+  no_iso1 = unhyphened s at end e (λ y. omega arith)
 
   no_dotted : dotted (lowered s) at ≡ none
   unfolding dotted
@@ -191,6 +196,31 @@ module _ (s : List ℕ) (at start : ℕ) (g : start ≡ space (lowered s) at) (a
   pub no_byte : length s ≤ start → a ≡ relative_item (lowered s) start → a ≡ parse_item (lowered s) at
   no_byte h e = let z = beyond_text s start h in relative_alone s at (rw g at z.0) (rw g at z.1) a (behind_space e)
 
+-- a byte that is no hyphen is none in lower case, and the end of the text is none
+module _ (s : List ℕ) (i : ℕ) where
+  still_no_hyphen : (get_or s i 0 ≡ 45 → ⊥) → get_or (lowered s) i 0 ≡ 45 → ⊥
+  unfolding lower
+  still_no_hyphen f y = go (dec_lt (get_or s i 0) 65)
+    where
+      go : Dec (get_or s i 0 < 65) → ⊥
+      go (yes h) = f (rw (get_or_lowered s i, lt-leb 65 (get_or s i 0) h) at y)
+      go (no h) = let l = lower_above (get_or s i 0) in let z : lower (get_or s i 0) ≡ 45 = rw (get_or_lowered s i) at y in omega arith
+
+  no_hyphen_beyond : length s ≤ i → get_or (lowered s) i 0 ≡ 45 → ⊥
+  no_hyphen_beyond h y = let z = get_or-eq_default (lowered s) 0 {n = i} (beyond s i h) in omega arith
+
+-- the tests of the byte that follows a number of many digits
+module _ (s : List ℕ) (at start end next : ℕ) (g : start ≡ space (lowered s) at) (e : end ≡ past digit (lowered s) start) (n : next ≡ space (lowered s) end) (a : Answer Item) (q : a ≡ unhyphened_item (lowered s) at) where
+  marked : (get_or (lowered s) next 0 ≡ 45 → ⊥) → a ≡ parse_item (lowered s) at
+  unfolding parse_item iso_item iso_date unhyphened_item compact_item
+  marked f = rw (unhyphened s at end (rw g at e) (rw n at f)) q
+
+  pub no_hyphen_next : (get_or s next 0 ≡ 45 → ⊥) → a ≡ parse_item (lowered s) at
+  no_hyphen_next f = marked (still_no_hyphen s next f)
+
+  pub nothing_next : length s ≤ next → a ≡ parse_item (lowered s) at
+  nothing_next h = marked (no_hyphen_beyond s next h)
+
 -- the tests of the byte that follows a number of at most four digits
 module _ (s : List ℕ) (at start end next : ℕ) (g : start ≡ space (lowered s) at) (e : end ≡ past digit (lowered s) start) (n : next ≡ space (lowered s) end) (k : end ≤ start + 4) (z : get_or s start 0 ≤ 57) (a : Answer Item) where
   numbered : (b : ℕ) → get_or (lowered s) next 0 ≡ b → 47 < b → a ≡ or_else (day_item (lowered s) at) (time_or_relative (lowered s) at) → a ≡ parse_item (lowered s) at
@@ -223,3 +253,5 @@ module _ (s : List ℕ) (at start end next : ℕ) (g : start ≡ space (lowered 
 pub ruleset fronts = (above_9, below_0, no_byte, items)
 
 pub ruleset followers = (colon_next, time_next, letter_next, items)
+
+pub ruleset hyphens = (no_hyphen_next, nothing_next, items)

@@ -1,7 +1,7 @@
 -- What the code reads where the first bytes of an item leave few readers. proofs/Fronts.antt shows that no other reader matches there.
 use Rattle.primitive.specs.Answer.{Reader, ◌>>=◌, ◌<|>◌, pure}
-use Rattle.dates.specs.Date.{literal1, literal2, literal3}
-use Rattle.items.specs.Items.{relative_item, time_or_relative}
+use Rattle.dates.specs.Date.{iso2, literal1, literal2, literal3}
+use Rattle.items.specs.Items.{dated_item, relative_item, time_or_relative, other_item}
 use Rattle.items.specs.declared.Item.{Item}
 use Rattle.items.specs.declared.Item.TheVariants as item
 
@@ -28,3 +28,13 @@ day_or_time = day_item <|> time_or_relative
 
 unfoldable pub day_or_relative : Reader Item
 day_or_relative = day_item <|> relative_item
+
+-- ---- digits that no hyphen follows
+
+unfoldable pub compact_item : Reader Item
+compact_item = do
+  d ← iso2
+  dated_item d
+
+unfoldable pub unhyphened_item : Reader Item
+unhyphened_item = compact_item <|> other_item

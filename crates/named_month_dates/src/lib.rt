@@ -29,7 +29,7 @@ pub fn literal1(s: &[u8], at: usize) -> Option<(Date, usize)>
 }
 
 // A date that begins with the name of a month, which is read once.
-#[tactic(auto, using(crate::proofs::Shared::shared), unfolding(dates::specs::Date::literal2, dates::specs::Date::literal3))]
+#[tactic(auto, using(primitive::proofs::Shared::shared_chain), unfolding(dates::specs::Date::literal2, dates::specs::Date::literal3))]
 pub fn month_first(s: &[u8], at: usize) -> Option<(Date, usize)>
     ensures { answer_of result ≡ or_else (literal2 (lowered s.now) at) (literal3 (lowered s.now) at) }
 {

@@ -9,9 +9,10 @@
 
 ghost use Rattle.std.specs.Prelude.{◌≡◌, []};
 ghost use Rattle.primitive.specs.Text.{lowered};
-ghost use Rattle.primitive.specs.Answer.{lossy_answer, stop_answer};
+ghost use Rattle.primitive.specs.Answer.{lossy_answer, stop_answer, or_else};
 ghost use Rattle.relative.specs.Relative.{parse};
-ghost use Rattle.times.specs.Offset.{without, offset_of, digits_offset, signed_fraction, time_zone_correction, any_offset, timezone_offset, timezone_offset_colon, timezone_offset_colonless};
+ghost use Rattle.times.specs.Offset.{without, offset_of, digits_offset, signed_fraction, time_zone_correction, any_offset, timezone_offset};
+ghost use Rattle.times.specs.Fronts.{colon_offset, colonless_offset};
 
 use primitive::Miss;
 use times::offset::Offset;
@@ -63,22 +64,30 @@ pub fn timezone_offset(s: &[u8], start: usize) -> Result<(Offset, usize), Miss>
     }
 }
 
-#[tactic(auto, using(times::proofs::Offsets::offsets), unfolding(times::specs::Offset::any_offset))]
+// An offset in either form. The sign is read once.
+#[tactic(auto, using(primitive::proofs::Shared::shared_chain), unfolding(times::specs::Offset::any_offset, times::specs::Offset::timezone_offset_colon, times::specs::Offset::timezone_offset_colonless, times::specs::Fronts::colon_offset, times::specs::Fronts::colonless_offset))]
 fn any_offset(s: &[u8], at: usize) -> Result<(Offset, usize), Miss>
     ensures { stop_answer result ≡ any_offset (lowered s.now) at }
 {
-    match timezone_offset_colon(s, at) {
-        Err(Miss::NoMatch) => timezone_offset_colonless(s, at),
+    let (negative, next) = spaces::plus_or_minus(s, at).ok_or(Miss::NoMatch)?;
+    signed_offset(s, next, negative)
+}
+
+#[tactic(auto, using(times::proofs::Offsets::offsets))]
+fn signed_offset(s: &[u8], at: usize, negative: bool) -> Result<(Offset, usize), Miss>
+    ensures { stop_answer result ≡ or_else (colon_offset negative (lowered s.now) at) (colonless_offset negative (lowered s.now) at) }
+{
+    match colon_offset(s, at, negative) {
+        Err(Miss::NoMatch) => colonless_offset(s, at, negative),
         read => read,
     }
 }
 
 // Hours and minutes with a colon between them, as `+08:00`, `+8:00`, `+8:0`.
-#[tactic(auto, using(times::proofs::Offsets::offsets), unfolding(times::specs::Offset::timezone_offset_colon))]
-fn timezone_offset_colon(s: &[u8], at: usize) -> Result<(Offset, usize), Miss>
-    ensures { stop_answer result ≡ timezone_offset_colon (lowered s.now) at }
+#[tactic(auto, using(times::proofs::Offsets::offsets), unfolding(times::specs::Fronts::colon_offset))]
+fn colon_offset(s: &[u8], at: usize, negative: bool) -> Result<(Offset, usize), Miss>
+    ensures { stop_answer result ≡ colon_offset negative (lowered s.now) at }
 {
-    let (negative, at) = spaces::plus_or_minus(s, at).ok_or(Miss::NoMatch)?;
     let (hours, at) = numbers::spaced_u8(s, at).ok_or(Miss::NoMatch)?;
     let at = spaces::colon(s, spaces::space(s, at)).ok_or(Miss::NoMatch)?;
     let (minutes, at) = numbers::spaced_u8(s, at).ok_or(Miss::NoMatch)?;
@@ -87,11 +96,10 @@ fn timezone_offset_colon(s: &[u8], at: usize) -> Result<(Offset, usize), Miss>
 
 // Digits without a colon, as `+0800`, `+800`, `+08`, `+8`. GNU quirk: zeros in front of the last four digits are lost, so that
 // `+0000530` is `+0530`; but `+00005` is 5 minutes, where `+5` is 5 hours.
-#[tactic(auto, using(times::proofs::Offsets::offsets), unfolding(times::specs::Offset::timezone_offset_colonless))]
-fn timezone_offset_colonless(s: &[u8], at: usize) -> Result<(Offset, usize), Miss>
-    ensures { stop_answer result ≡ timezone_offset_colonless (lowered s.now) at }
+#[tactic(auto, using(times::proofs::Offsets::offsets), unfolding(times::specs::Fronts::colonless_offset))]
+fn colonless_offset(s: &[u8], at: usize, negative: bool) -> Result<(Offset, usize), Miss>
+    ensures { stop_answer result ≡ colonless_offset negative (lowered s.now) at }
 {
-    let (negative, at) = spaces::plus_or_minus(s, at).ok_or(Miss::NoMatch)?;
     let start = spaces::space(s, at);
     let (digits, next) = primitive::dec_uint_str(s, start).ok_or(Miss::NoMatch)?;
     let n = numbers::parse_uint(digits, 9999).ok_or(Miss::NoMatch)?;

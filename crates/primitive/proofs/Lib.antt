@@ -15,6 +15,7 @@ pub mod Tables
 pub mod Fractions
 pub mod Limits
 pub mod Spaced
+pub mod Shared
 pub mod Examples
 pub mod Rows
 pub mod Walk

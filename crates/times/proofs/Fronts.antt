@@ -11,6 +11,7 @@ use Rattle.primitive.specs.Answer.{Answer, matched, dropped, none, stop, drops, 
 use Rattle.primitive.specs.Text.{lower, lowered, bytes}
 use Rattle.primitive.specs.Primitive.{space, colon}
 use Rattle.primitive.proofs.Fronts.{tag_first, tag_else}
+use Rattle.primitive.proofs.Shared.{shared}
 use Rattle.primitive.proofs.Lowered.{get_or_lowered, beyond}
 use Rattle.times.specs.Time.{below, hour24, hour12, minute, optional_minute, optional_second, offset_behind, minutes_behind, iso, meridiem, am_pm_time, parse}
 use Rattle.times.specs.Fronts.{half_day, whole_day, hour_alone, hour_minute}
@@ -18,19 +19,6 @@ use Rattle.times.specs.declared.time.Time.{Time}
 use Rattle.times.proofs.Hours.{hourless, hour_minutes, hour_alone as iso_alone}
 use Rattle.times.proofs.Minutes.{below_read, below_other, below_fewer, minute_second}
 use Rattle.times.proofs.Times.{times}
-
--- two readers that begin with one part are a choice after it
-shared : {A B : Type 0} (a : Answer A) (f g : A → ℕ → Answer B) → or_else (and_then a f) (and_then a g) ≡ and_then a (λ v n. or_else (f v n) (g v n))
-shared {A = A} {B = B} (matched v n) f g = refl
-shared {A = A} {B = B} (dropped v n) f g = go (f v n) (g v n)
-  where
-    go : (a b : Answer B) → or_else (drops a) (drops b) ≡ drops (or_else a b)
-    go (matched v n) b = refl
-    go (dropped v n) b = refl
-    go none b = refl
-    go stop b = refl
-shared {A = A} {B = B} none f g = refl
-shared {A = A} {B = B} stop f g = refl
 
 -- a colon begins neither am nor pm
 colon_no_meridiem : (text : List ℕ) (at n : ℕ) → colon text at ≡ matched tt n → meridiem text at ≡ none

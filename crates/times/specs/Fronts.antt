@@ -1,9 +1,12 @@
--- What the code reads after an hour, which it reads once for both ways to write a time. proofs/Fronts.antt shows that it is what `parse` reads.
-use Rattle.std.specs.Prelude.{ℕ, ◌+◌, ◌%◌, Bool, true, false, ltb, None, cond}
-use Rattle.primitive.specs.Answer.{Reader, none, ◌>>=◌, ◌<|>◌, pure, value}
+-- What the code reads after an hour or a sign, which it reads once for both ways to write a time or an offset. proofs/Fronts.antt shows that a
+-- time is read so.
+use Rattle.std.specs.Prelude.{ℕ, ◌+◌, ◌%◌, Bool, true, false, length, ltb, None, cond}
+use Rattle.primitive.specs.Answer.{Reader, none, ◌>>=◌, ◌>>◌, ◌<|>◌, pure, value}
 use Rattle.primitive.specs.Text.{quoted}
 use Rattle.primitive.specs.declared.SecAndNsec.{SecAndNsec}
-use Rattle.times.specs.Offset.{certain}
+use Rattle.primitive.specs.Primitive.{spaced, colon, dec_uint, dec_uint_str, parse_uint}
+use Rattle.times.specs.Offset.{certain, offset_of, digits_offset}
+use Rattle.times.specs.declared.offset.Offset.{Offset}
 use Rattle.times.specs.Time.{minute, optional_second, optional_correction, meridiem, offset_behind}
 use Rattle.times.specs.declared.time.Time.{Time}
 
@@ -35,3 +38,18 @@ hour_minute h = do
 -- am or pm where the space ends; true for pm
 abbrev pub am_or_pm : Reader Bool
 am_or_pm = value false (quoted "am") <|> value false (quoted "a.m.") <|> value true (quoted "pm") <|> value true (quoted "p.m.")
+
+-- ---- offsets: what follows the sign
+
+unfoldable pub colon_offset : Bool → Reader Offset
+colon_offset negative = do
+  hours ← spaced (dec_uint 255)
+  spaced colon
+  minutes ← spaced (dec_uint 255)
+  offset_of negative hours minutes
+
+unfoldable pub colonless_offset : Bool → Reader Offset
+colonless_offset negative = do
+  w ← spaced dec_uint_str
+  n ← parse_uint 9999 w
+  digits_offset negative (length w) n
