@@ -9,8 +9,8 @@ ghost use Rattle.std.specs.Prelude.{◌≡◌, ◌<◌, ◌≤◌, length, get_o
 ghost use Rattle.primitive.specs.Text.{lowered, digit, past};
 ghost use Rattle.primitive.specs.Primitive.{space};
 ghost use Rattle.primitive.specs.Answer.{answer_of, lossy_answer, lossy_stop_answer};
-ghost use Rattle.items.specs.Items.{dated_item, iso_date, iso_item, relative_item, time_or_relative, other_item, parse_item};
-ghost use Rattle.items.specs.Fronts.{word_item, day_or_time, day_or_relative, compact_item, unhyphened_item};
+ghost use Rattle.items.specs.Items.{dated_item, iso_date, relative_item, time_or_relative, other_item, parse_item};
+ghost use Rattle.items.specs.Fronts.{word_item, day_or_time, day_or_relative, unhyphened_item};
 
 use dates::date::Date;
 use items::Item;
@@ -88,31 +88,24 @@ fn long_number_item(
 }
 
 // A date without marks, with a time or alone, or another item.
-#[tactic(auto, unfolding(items::specs::Fronts::unhyphened_item))]
+#[tactic(auto, using(items::proofs::Fronts::dates))]
 fn unhyphened_item(s: &[u8], at: usize) -> Result<(Item, usize, bool), Miss>
     ensures { lossy_stop_answer result ≡ unhyphened_item (lowered s.now) at }
 {
-    match compact_item(s, at) {
-        Err(Miss::NoMatch) => other_item(s, at),
-        read => read,
+    match date_readers::iso2(s, at) {
+        Some((date, next)) => dated_item(s, next, date),
+        None => other_item(s, at),
     }
 }
 
-#[tactic(auto, unfolding(items::specs::Fronts::compact_item))]
-fn compact_item(s: &[u8], at: usize) -> Result<(Item, usize, bool), Miss>
-    ensures { lossy_stop_answer result ≡ compact_item (lowered s.now) at }
-{
-    let (date, next) = date_readers::iso2(s, at).ok_or(Miss::NoMatch)?;
-    dated_item(s, next, date)
-}
-
-#[tactic(auto, unfolding(items::specs::Items::parse_item))]
+// An ISO date, with a time or alone, or another item. The date is read once.
+#[tactic(auto, using(items::proofs::Fronts::dates))]
 fn any_item(s: &[u8], at: usize) -> Result<(Item, usize, bool), Miss>
     ensures { lossy_stop_answer result ≡ parse_item (lowered s.now) at }
 {
-    match iso_item(s, at) {
-        Err(Miss::NoMatch) => other_item(s, at),
-        read => read,
+    match iso_date(s, at) {
+        Some((date, next)) => dated_item(s, next, date),
+        None => other_item(s, at),
     }
 }
 
@@ -147,15 +140,6 @@ fn day_or_relative(s: &[u8], at: usize) -> Result<(Item, usize, bool), Miss>
         Some((date, next)) => Ok((Item::Date(date), next, false)),
         None => relative_item(s, at).ok_or(Miss::NoMatch),
     }
-}
-
-// An ISO date, with a time or alone. The date is read once.
-#[tactic(auto, unfolding(items::specs::Items::iso_item))]
-fn iso_item(s: &[u8], at: usize) -> Result<(Item, usize, bool), Miss>
-    ensures { lossy_stop_answer result ≡ iso_item (lowered s.now) at }
-{
-    let (date, next) = iso_date(s, at).ok_or(Miss::NoMatch)?;
-    dated_item(s, next, date)
 }
 
 #[tactic(auto, unfolding(items::specs::Items::iso_date))]

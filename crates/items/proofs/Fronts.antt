@@ -21,7 +21,7 @@ use Rattle.times.specs.Offset.{any_offset, timezone_offset, timezone_offset_colo
 use Rattle.times.specs.Time.{below, hour24, hour12, hour_offset, clock, iso, optional_minute, optional_second, meridiem, am_pm_time, parse}
 use Rattle.times.proofs.Chain.{nothing_left}
 use Rattle.relative.specs.Relative as relative
-use Rattle.items.specs.Items.{iso_date, iso_item, date_item, time_item, relative_item, time_or_relative, other_item, parse_item}
+use Rattle.items.specs.Items.{dated_item, date_time_item, iso_date, iso_item, date_item, time_item, relative_item, time_or_relative, other_item, parse_item}
 use Rattle.items.specs.Fronts.{month_item, word_item, day_item, day_or_time, day_or_relative, compact_item, unhyphened_item}
 use Rattle.items.specs.declared.Item.{Item}
 use Rattle.items.specs.declared.Item.TheVariants as item
@@ -249,6 +249,36 @@ module _ (s : List ℕ) (at start end next : ℕ) (g : start ≡ space (lowered 
         let o : 47 < get_or (lowered s) (space (lowered s) end) 0 = rw (← n) (omega arith) in
         let r = timeless s at end (rw g at e) o (λ y. let w : get_or (lowered s) next 0 ≡ 58 = rw n y in omega arith) (λ y. u (sym i ∙ y)) (λ y. v (sym i ∙ y)) in
         numbered (get_or (lowered s) next 0) refl (omega arith) (rw r (rw (g, day_behind (lowered s) at, relative_behind (lowered s) at) at q))
+
+-- a date that was read is an item, with a time or alone
+module _ (text : List ℕ) (at : ℕ) (a : Answer Item) where
+  dated_kept : (d : Date) (n : ℕ) (q : Answer Item) → or_else (dated_item d text n) q ≡ dated_item d text n
+  unfolding dated_item
+  dated_kept d n q = go (date_time_item d text n)
+    where
+      go : (b : Answer Item) → or_else (or_else b (matched (item.Date d) n)) q ≡ or_else b (matched (item.Date d) n)
+      go (matched v m) = refl
+      go (dropped v m) = refl
+      go none = refl
+      go stop = refl
+
+  pub iso_read : (d : Date) (n : ℕ) → matched d n ≡ iso_date text at → a ≡ dated_item d text n → a ≡ parse_item text at
+  unfolding parse_item iso_item
+  iso_read d n e q = rw (← e, dated_kept d n (other_item text at)) q
+
+  pub iso_unread : none ≡ iso_date text at → a ≡ other_item text at → a ≡ parse_item text at
+  unfolding parse_item iso_item
+  iso_unread e q = rw (← e) q
+
+  pub compact_read : (d : Date) (n : ℕ) → matched d n ≡ iso2 text at → a ≡ dated_item d text n → a ≡ unhyphened_item text at
+  unfolding unhyphened_item compact_item
+  compact_read d n e q = rw (← e, dated_kept d n (other_item text at)) q
+
+  pub compact_unread : none ≡ iso2 text at → a ≡ other_item text at → a ≡ unhyphened_item text at
+  unfolding unhyphened_item compact_item
+  compact_unread e q = rw (← e) q
+
+pub ruleset dates = (iso_read, iso_unread, compact_read, compact_unread, items)
 
 pub ruleset fronts = (above_9, below_0, no_byte, items)
 

@@ -7,8 +7,8 @@
 // 99, which is no text's answer. The list has room for 65536 bytes.
 #![tactic(auto)]
 
-mod replies;
 mod line;
+mod replies;
 mod shown;
 
 use line::Line;

@@ -164,6 +164,7 @@ one_room count at a {q} e = by (64 - count) a refl e
       where
         clash : ◌≡◌ {A = ℕ} 0 1 → ⊥
         clash z = omega arith
+
     by : (room : ℕ) (a : Answer Item) → 64 - count ≡ room → fine q ≡ one room a at → count < 64
     by zero (matched x n) h e = apart e
     by zero (dropped x n) h e = apart e
