@@ -1,22 +1,24 @@
 -- The names of months, by their first letter: where it is known, the table of all names gives what the table of those with that letter
 -- gives. Assumes nothing.
 use borrow.Author.Rules.{rules}
-use borrow.Author.Tests.{ne_eqb}
+use borrow.Author.Tests.{ne_eqb, ltb-true}
 use Rattle.std.proofs.lemmas.Bool.{eqb-false}
-use lib.Dec.{eqb}
-use mathlib.Core.Bool.{false}
+use lib.Dec.{eqb, ltb}
+use lib.Seq.{slice}
+use mathlib.Core.Bool.{Bool, true, false, cond}
 use native.Mathlib.Omega.{arith}
-use Prim.Native.Nat.{ℕ}
+use Prim.Native.Nat.{ℕ, ◌+◌, ◌<◌, ◌≤◌}
 use Prim.Native.String.{String}
 use mathlib.Core.Path.{◌≡◌, refl, sym, ap, ◌∙◌}
-use mathlib.Core.List.{List, [], ◌∷◌}
+use mathlib.Core.List.{List, [], ◌∷◌, ◌++◌}
 use lib.ListN.{length, get_or, drop}
-use Rattle.primitive.specs.Answer.{none, found_at}
-use Rattle.primitive.specs.Text.{lower, lowered, bytes}
-use Rattle.primitive.specs.Primitive.{same, named, beside}
-use Rattle.primitive.proofs.Lowered.{rest_cons}
+use Rattle.primitive.specs.Answer.{Answer, matched, none, and_then, or_else, found_at}
+use Rattle.primitive.specs.Text.{lower, lowered, bytes, letter, past, some, starts, tag}
+use Rattle.primitive.specs.Primitive.{space, alpha1, same, named, beside}
+use Rattle.primitive.proofs.Lowered.{rest_cons, slice_first}
+use Rattle.primitive.proofs.Fronts.{word_else, beyond_text}
 use Rattle.primitive.proofs.Tables.{in_lower, in_bytes, beside_named}
-use Rattle.dates.specs.Date.{months}
+use Rattle.dates.specs.Date.{months, word_dot, literal_month}
 use Rattle.std.specs.Prelude.{Option}
 
 -- no byte is no month
@@ -103,5 +105,39 @@ unfolding named months same bytes
 other_letter word h b e j m a f g o n d text at =
     rw
     (by_first word h b e, ne_eqb b 106 j, ne_eqb b 109 m, ne_eqb b 97 a, ne_eqb b 102 f, ne_eqb b 115 g, ne_eqb b 111 o, ne_eqb b 110 n, ne_eqb b 100 d)
+
+-- so too where the letter is the first that is read
+named_other : (b : ℕ) → (b ≡ 106 → ⊥) → (b ≡ 109 → ⊥) → (b ≡ 97 → ⊥) → (b ≡ 102 → ⊥) → (b ≡ 115 → ⊥) → (b ≡ 111 → ⊥) → (b ≡ 110 → ⊥) → (b ≡ 100 → ⊥)
+    → (w text : List ℕ) (at : ℕ) → named months (b ∷ w) text at ≡ none
+unfolding named months same bytes
+named_other b j m a f g o n d w text at =
+    rw (ne_eqb b 106 j, ne_eqb b 109 m, ne_eqb b 97 a, ne_eqb b 102 f, ne_eqb b 115 g, ne_eqb b 111 o, ne_eqb b 110 n, ne_eqb b 100 d)
+
+module _ (s : List ℕ) (at start : ℕ) (e : start ≡ space (lowered s) at) where
+  pub month_there : (a : Answer ℕ) → a ≡ and_then (word_dot (lowered s) start) (λ w n. named months w (lowered s) n) → a ≡ literal_month (lowered s) at
+  unfolding literal_month
+  month_there a q = rw (← e) q
+
+  pub month_beyond : length s ≤ start → none ≡ literal_month (lowered s) at
+  unfolding literal_month word_dot
+  month_beyond h = let z = beyond_text s start h in rw (← e, word_else (lowered s) start z.1)
+
+  pub no_month_letter : start < length s → (b : ℕ) → b ≡ lower (get_or s start 0)
+      → (b ≡ 106 → ⊥) → (b ≡ 109 → ⊥) → (b ≡ 97 → ⊥) → (b ≡ 102 → ⊥) → (b ≡ 115 → ⊥) → (b ≡ 111 → ⊥) → (b ≡ 110 → ⊥) → (b ≡ 100 → ⊥) → none ≡ literal_month (lowered s) at
+  unfolding literal_month word_dot alpha1 some tag
+  no_month_letter h b k j m a f g o n d = rw (← e) (sym (go (ltb start (past letter (lowered s) start)) refl))
+    where
+      end : ℕ
+      end = past letter (lowered s) start
+
+      dot : (w : List ℕ) (t : Bool) → and_then (or_else (and_then (cond {A = Answer (Unit {0})} t (matched tt (end + 1)) none) (λ v i. matched ((b ∷ w) ++ (46 ∷ [])) i)) (matched (b ∷ w) end)) (λ v i. named months v (lowered s) i) ≡ none
+      dot w true = named_other b j m a f g o n d (w ++ (46 ∷ [])) (lowered s) (end + 1)
+      dot w false = named_other b j m a f g o n d w (lowered s) end
+
+      go : (t : Bool) → ltb start end ≡ t → and_then (and_then (cond t (matched (slice start end (lowered s)) end) none) (λ w i. or_else (and_then (tag (46 ∷ []) (lowered s) i) (λ v l. matched (w ++ (46 ∷ [])) l)) (matched w i))) (λ v i. named months v (lowered s) i) ≡ none
+      go true q = rw (slice_first s start end (ltb-true start end q) h b k) (dot (slice (start + 1) end (lowered s)) (starts (46 ∷ []) (drop end (lowered s))))
+      go false q = refl
+
+pub ruleset month_letters = (month_there, month_beyond, no_month_letter, rules)
 
 pub ruleset month_names = (no_word, other_letter, rules)

@@ -66,7 +66,7 @@ fn number_item(s: &[u8], at: usize, start: usize) -> Result<(Item, usize, bool),
     }
 }
 
-// The same where the number may be a date without marks. Only with a hyphen after it is it a year.
+// The same where the number may be a date without marks. Without a hyphen after it, it begins no `2022-11-14`.
 #[tactic(auto, using(items::proofs::Fronts::hyphens))]
 fn long_number_item(
     s: &[u8],

@@ -4,7 +4,7 @@
 
 ghost use Rattle.std.specs.Prelude.{◌≡◌, ℕ, List};
 ghost use Rattle.primitive.specs.Text.{lowered, part_answer};
-ghost use Rattle.primitive.specs.Answer.{answer_of, found_at};
+ghost use Rattle.primitive.specs.Answer.{answer_of, found_at, and_then};
 ghost use Rattle.primitive.specs.Primitive.{spaced, named};
 ghost use Rattle.dates.specs.Date.{word_dot, months, literal_month};
 
@@ -14,13 +14,32 @@ pub fn spaced_month(s: &[u8], at: usize) -> Option<(u8, usize)>
     literal_month(s, spaces::space(s, at))
 }
 
-// The name of a month, behind space: `sept` is one, `sept.` is none.
-#[tactic(auto, unfolding(dates::specs::Date::literal_month))]
+// The name of a month, behind space: `sept` is one, `sept.` is none. A word with another first letter is not read.
+#[tactic(auto, using(dates::proofs::Months::month_letters))]
 fn literal_month(s: &[u8], at: usize) -> Option<(u8, usize)>
     ensures { answer_of result ≡ literal_month (lowered s.now) at }
 {
     let start = spaces::space(s, at);
-    let (word, end) = word_dot(s, start)?;
+    if s.len() <= start {
+        return None;
+    }
+    match primitive::to_lower(s[start]) {
+        b'j' => month_at(s, start),
+        b'm' => month_at(s, start),
+        b'a' => month_at(s, start),
+        b'f' => month_at(s, start),
+        b's' => month_at(s, start),
+        b'o' => month_at(s, start),
+        b'n' => month_at(s, start),
+        b'd' => month_at(s, start),
+        _ => None,
+    }
+}
+
+fn month_at(s: &[u8], at: usize) -> Option<(u8, usize)>
+    ensures { answer_of result ≡ and_then (word_dot (lowered s.now) at) (λ w n. named months w (lowered s.now) n) }
+{
+    let (word, end) = word_dot(s, at)?;
     let month = month_named(word)?;
     Some((month, end))
 }

@@ -12,6 +12,7 @@ pub mod Scans
 pub mod Spaces
 pub mod Fronts
 pub mod Tables
+pub mod Ordinals
 pub mod Fractions
 pub mod Limits
 pub mod Spaced

@@ -52,8 +52,26 @@ fn text_ordinal(s: &[u8], at: usize) -> Option<(i32, usize)>
     Some((n, end))
 }
 
-// The ordinal that a word names.
+// The ordinal that a word names. Most words begin with a letter that begins none.
+#[tactic(auto, using(primitive::proofs::Ordinals::ordinal_letters))]
 pub fn ordinal_named(word: &[u8]) -> Option<i32>
+    ensures { (text : List ℕ) (at : ℕ) → found_at at result ≡ named ordinals (lowered word.now) text at }
+{
+    if word.is_empty() {
+        return None;
+    }
+    match primitive::to_lower(word[0]) {
+        b'e' => in_table(word),
+        b'f' => in_table(word),
+        b'l' => in_table(word),
+        b'n' => in_table(word),
+        b's' => in_table(word),
+        b't' => in_table(word),
+        _ => None,
+    }
+}
+
+fn in_table(word: &[u8]) -> Option<i32>
     ensures { (text : List ℕ) (at : ℕ) → found_at at result ≡ named ordinals (lowered word.now) text at }
 {
     crate::find_value(word, &ORDINALS)

@@ -1,10 +1,10 @@
--- `ordinal_named` is its definition: the value beside the word. Assumes nothing.
+-- `in_table` is its definition: the value beside the word. Assumes nothing.
 use mathlib.Core.Path.{refl, ap, ◌∙◌}
 use Rattle.primitive.specs.Answer.{found_at}
 use Rattle.primitive.specs.Text.{lower, lowered, bytes}
 use Rattle.primitive.specs.Ordinal.{ordinals}
 use Rattle.primitive.proofs.Tables.{beside_named}
-use Rattle.words.proofs.ordinal.ordinal_named.Goals as goal
+use Rattle.words.proofs.ordinal.in_table.Goals as goal
 
 pub returns : goal.returns
 unfolding ordinals bytes lower lowered
