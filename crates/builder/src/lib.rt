@@ -18,23 +18,25 @@ use times::time::Time;
 // The record of items: what those that are not relative give, and the relative ones.
 #[tactic(auto, unfolding(crate::specs::Building::built))]
 pub fn build(
-    standing: Result<DateTimeBuilder, PlacedRefusal>,
+    standing: &Result<DateTimeBuilder, PlacedRefusal>,
     relatives: &[Relative],
     base: ExtendedDateTime,
 ) -> Result<ExtendedDateTime, PlacedRefusal>
-    ensures { placed_of result ≡ built (placed_of standing) relatives.now base }
+    ensures { placed_of result ≡ built (placed_of standing.now) relatives.now base }
 {
-    let builder = standing?;
-    Ok(build_extended(builder, relatives, base)?)
+    match standing {
+        Ok(builder) => Ok(build_extended(builder, relatives, base)?),
+        Err(refused) => Err(*refused),
+    }
 }
 
 #[tactic(auto, unfolding(crate::specs::Building::build_extended))]
 pub(crate) fn build_extended(
-    builder: DateTimeBuilder,
+    builder: &DateTimeBuilder,
     relatives: &[Relative],
     base: ExtendedDateTime,
 ) -> Result<ExtendedDateTime, Refusal>
-    ensures { outcome_of result ≡ build_extended builder relatives.now base }
+    ensures { outcome_of result ≡ build_extended builder.now relatives.now base }
 {
     let dt = absolute(builder, relatives.is_empty(), base)?;
     let dt = add_relatives(relatives, dt)?;
@@ -44,11 +46,11 @@ pub(crate) fn build_extended(
 // The clock at its start, and then the date, the time and the weekday. `bare`: there is no relative item.
 #[tactic(auto, unfolding(crate::specs::Building::absolute))]
 fn absolute(
-    builder: DateTimeBuilder,
+    builder: &DateTimeBuilder,
     bare: bool,
     base: ExtendedDateTime,
 ) -> Result<ExtendedDateTime, Refusal>
-    ensures { outcome_of result ≡ absolute builder bare base }
+    ensures { outcome_of result ≡ absolute builder.now bare base }
 {
     let dt = start(builder, bare, base)?;
     let dt = on_date(builder.date, dt)?;
@@ -58,11 +60,11 @@ fn absolute(
 
 #[tactic(auto, unfolding(crate::specs::Building::start, extended::specs::Extended::accept))]
 fn start(
-    builder: DateTimeBuilder,
+    builder: &DateTimeBuilder,
     bare: bool,
     base: ExtendedDateTime,
 ) -> Result<ExtendedDateTime, Refusal>
-    ensures { outcome_of result ≡ start builder bare base }
+    ensures { outcome_of result ≡ start builder.now bare base }
 {
     if builder.need_midnight(bare) {
         return base.with_time(0, 0, 0, 0);

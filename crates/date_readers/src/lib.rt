@@ -93,7 +93,7 @@ fn us_rest(s: &[u8], at: usize, first: &[u8], number: u8) -> Option<(Date, usize
     date_parts::with_year(last, MonthDay { month, day: number }, next)
 }
 
-// The digits behind the second slash, where there is one.
+// The digits after the second slash, where there is one.
 #[tactic(auto, unfolding(dates::specs::Date::slash_part))]
 fn slash_part(s: &[u8], at: usize) -> Option<(&[u8], usize)>
     ensures { year_answer at result ≡ slash_part (lowered s.now) at }

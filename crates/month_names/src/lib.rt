@@ -14,7 +14,7 @@ pub fn spaced_month(s: &[u8], at: usize) -> Option<(u8, usize)>
     literal_month(s, spaces::space(s, at))
 }
 
-// The name of a month, behind space: `sept` is one, `sept.` is none. A word with another first letter is not read.
+// The name of a month, after space: `sept` is one, `sept.` is none. A word with another first letter is not read.
 #[tactic(auto, using(dates::proofs::Months::month_letters))]
 fn literal_month(s: &[u8], at: usize) -> Option<(u8, usize)>
     ensures { answer_of result ≡ literal_month (lowered s.now) at }
@@ -104,7 +104,7 @@ const N_MONTHS: [(&str, u8); 3] = [("november", 11), ("nov", 11), ("nov.", 11)];
 
 const D_MONTHS: [(&str, u8); 3] = [("december", 12), ("dec", 12), ("dec.", 12)];
 
-// A word, and a dot that stands behind it.
+// A word, and a dot that stands after it.
 fn word_dot(s: &[u8], at: usize) -> Option<(&[u8], usize)>
     ensures { part_answer result ≡ word_dot (lowered s.now) at }
 {

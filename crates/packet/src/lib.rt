@@ -80,7 +80,7 @@ fn build_items(
     if is_left {
         return Err(Refusal::Packet.at(count));
     }
-    builder::build(gathered.builder, gathered.relatives.as_slice(), base)
+    builder::build(&gathered.builder, gathered.relatives.as_slice(), base)
 }
 
 // The item of an index, after items that used up so many digits.

@@ -66,7 +66,7 @@ fn past<F: Fn(u8) -> bool>(s: &[u8], at: usize, passes: F) -> usize
     requires { F.IsAlwaysCallable passes }
     ensures { (p : ℕ → Bool) → Tells (F.post passes) p → result ≡ past p (lowered s.now) at }
 {
-    // `position` was tried in its place: std speaks of the runs of the closure there, and the proof did not close
+    // `position` does not do: std speaks of the closure's runs there, which no proof here uses
     for i in at..s.len() {
         if !passes(s[i]) {
             return i;

@@ -169,7 +169,7 @@ const UNITS: [(&str, Unit); 10] = [
     ("sec", Unit::Second),
 ];
 
-// The unit that a word names, n times. One `s` behind the unit is ignored.
+// The unit that a word names, n times. One `s` after the unit is ignored.
 fn in_unit(word: &[u8], n: i32, next: usize) -> Option<(Relative, usize)>
     ensures { (text : List ℕ) → answer_of result ≡ in_unit n (lowered word.now) text next }
 {

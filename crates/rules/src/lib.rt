@@ -1,5 +1,6 @@
 // Which items may be combined, as in items/builder.rs. `DateTimeBuilder` contains at most one item of each kind but the relative one, and
-// goes by value. The loop over the items is in `gather`, which keeps the relative ones; building is in `builder`.
+// goes by value. Items are added one after the other in `gather`; the loops are in `text_general` and `packet`;
+// building is in `builder`.
 
 #![tactic(auto)]
 
@@ -103,8 +104,8 @@ impl DateTimeBuilder {
 
     // Whether the clock starts at midnight: a relative item alone keeps the clock of the base. `bare`: there is no relative item.
     #[tactic(auto, unfolding(crate::specs::Rules::need_midnight))]
-    pub fn need_midnight(self, bare: bool) -> bool
-        ensures { result ≡ need_midnight self bare }
+    pub fn need_midnight(&self, bare: bool) -> bool
+        ensures { result ≡ need_midnight self.now bare }
     {
         if self.date.is_some() || self.time.is_some() || self.weekday.is_some() {
             return true;
@@ -112,8 +113,8 @@ impl DateTimeBuilder {
         self.has_zone() && bare
     }
 
-    fn has_zone(self) -> bool
-        ensures { result ≡ is_some self.zone }
+    fn has_zone(&self) -> bool
+        ensures { result ≡ is_some self.now.zone }
     {
         self.zone.is_some()
     }

@@ -4,7 +4,7 @@
 #![tactic(auto)]
 
 ghost use Rattle.std.specs.Prelude.{◌≡◌, true};
-ghost use Rattle.primitive.specs.Text.{lowered, byte, tag};
+ghost use Rattle.primitive.specs.Text.{lowered, byte};
 ghost use Rattle.primitive.specs.Answer.{answer_of, place_answer};
 ghost use Rattle.primitive.specs.Primitive.{comment, ignored_hyphen_or_plus, ignored, space, spaced, colon, plus_or_minus};
 
@@ -173,11 +173,4 @@ pub fn plus_or_minus(s: &[u8], at: usize) -> Option<(bool, usize)>
     ensures { answer_of result ≡ plus_or_minus (lowered s.now) at }
 {
     primitive::sign(s, space(s, at))
-}
-
-// The bytes `w` after space.
-pub fn spaced_tag(s: &[u8], at: usize, w: &[u8]) -> Option<usize>
-    ensures { place_answer result ≡ spaced (tag w.now) (lowered s.now) at }
-{
-    primitive::tag(s, space(s, at), w)
 }

@@ -1,4 +1,4 @@
--- The place of a refusal is never past the text, nor past the 64 items. Assumes nothing.
+-- The place of a refusal is at most 4096, and where the reading of the items ends is never past the text. Assumes nothing.
 use native.Mathlib.Omega.{arith}
 use Prim.Native.Nat.{ℕ, zero, suc, ◌+◌, ◌≤◌}
 use mathlib.Core.Path.{◌≡◌, refl}

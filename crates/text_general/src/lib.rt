@@ -40,7 +40,7 @@ pub fn build_text(text: &[u8], base: ExtendedDateTime) -> Result<ExtendedDateTim
         count += 1;
         at = next;
     }
-    builder::build(gathered.builder, gathered.relatives.as_slice(), base)
+    builder::build(&gathered.builder, gathered.relatives.as_slice(), base)
 }
 
 // The same for the items from a place on, after `read` items, which gave a builder and the first relative items.
@@ -64,7 +64,7 @@ fn build_rest(
         count += 1;
         i = next;
     }
-    builder::build(gathered.builder, gathered.relatives.as_slice(), base)
+    builder::build(&gathered.builder, gathered.relatives.as_slice(), base)
 }
 
 // The item at a place, where one is tried after `count` others: 1 if it is the 65th, 3 if no reader matches, 4 if one stops, and 22 if it lost

@@ -38,7 +38,7 @@ fn ascii_end(text: &[u8]) -> usize
     if highest(text) < 128 {
         return text.len();
     }
-    // primitive's `past` has a premise about its closure, so it is not public; with `position` the proof did not close
+    // primitive's `past` has a premise about its closure, so it is not public; of `position` std says nothing that this proof uses
     for i in 0..text.len() {
         if !is_ascii(text[i]) {
             return i;

@@ -1,4 +1,4 @@
--- The laws of the crate `theorems_forms`: how a reader goes along a text, where a match ends, the written forms, and which items lose a digit.
+-- The laws of the crate `theorems_forms`: which items lose a digit of a fraction, and examples of each written form.
 pub mod Examples
 pub mod Premises
 pub mod Undropped

@@ -1,4 +1,4 @@
-// The written forms of the manual, each read as its item, where a match ends, and which items lose a digit: theorems alone (proofs/), no
-// function.
+// Which items lose a digit of a fraction, and examples of each written form: theorems alone (proofs/), no function. The theorems on each form
+// are in items, dates, times and relative.
 
 #![tactic(auto)]

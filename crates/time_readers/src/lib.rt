@@ -137,7 +137,7 @@ fn whole_day(
     Ok((time, next))
 }
 
-// A time in 24 hours: an hour, and minutes behind a colon or else an offset.
+// A time in 24 hours: an hour, and minutes after a colon or else an offset.
 #[tactic(auto, using(times::proofs::Hours::hours), unfolding(times::specs::Time::hour24))]
 pub fn iso(s: &[u8], at: usize) -> Result<(Time, usize, bool), Miss>
     ensures { lossy_stop_answer result ≡ iso (lowered s.now) at }
@@ -149,7 +149,7 @@ pub fn iso(s: &[u8], at: usize) -> Result<(Time, usize, bool), Miss>
     }
 }
 
-// The offset behind an hour.
+// The offset after an hour.
 fn hour_offset(s: &[u8], at: usize, hour: u8) -> Result<(Time, usize, bool), Miss>
     ensures { lossy_stop_answer result ≡ offset_behind hour (lowered s.now) at }
 {
@@ -164,7 +164,7 @@ fn hour_offset(s: &[u8], at: usize, hour: u8) -> Result<(Time, usize, bool), Mis
     Ok((time, next, false))
 }
 
-// The minutes behind an hour and a colon, then seconds or none, then a correction or none.
+// The minutes after an hour and a colon, then seconds or none, then a correction or none.
 #[tactic(auto, using(times::proofs::Times::times), unfolding(times::specs::Time::minute, times::specs::Fronts::whole_day))]
 fn clock(s: &[u8], at: usize, hour: u8) -> Result<(Time, usize, bool), Miss>
     ensures { lossy_stop_answer result ≡ minutes_behind hour (lowered s.now) at }
@@ -245,7 +245,7 @@ fn optional_second(s: &[u8], at: usize) -> Seconds
     }
 }
 
-// A number below a limit, behind space.
+// A number below a limit, after space.
 #[tactic(auto, using(times::proofs::Times::times), unfolding(times::specs::Time::below))]
 fn below(s: &[u8], at: usize, limit: u8) -> Option<(u8, usize)>
     ensures { answer_of result ≡ below limit (lowered s.now) at }

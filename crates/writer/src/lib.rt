@@ -108,7 +108,7 @@ pub fn fill_digits(row: &mut [u8], number: u64)
     ensures { row.new ≡ fixed (length row.old) number }
 {
     let mut left = number;
-    // `iter_mut().rev()` was tried in its place: the proof did not close
+    // of `iter_mut().rev()` std says nothing that this proof uses
     for i in (0..row.len()).rev() {
         row[i] = b'0' + (left % 10) as u8;
         left /= 10;
