@@ -43,7 +43,9 @@ pub fn build_text(text: &[u8], base: ExtendedDateTime) -> Result<ExtendedDateTim
     builder::build(&gathered.builder, gathered.relatives.as_slice(), base)
 }
 
-// The same for the items from a place on, after `read` items, which gave a builder and the first relative items.
+// The same for the items from a place on, after `read` items, which gave a builder and the first relative items. Inlined, its 64 places would be
+// in the frame of every text.
+#[inline(never)]
 fn build_rest(
     text: &[u8],
     base: ExtendedDateTime,
