@@ -6,8 +6,9 @@ use Rattle.dates.specs.declared.date.Date.{Date}
 use Rattle.times.specs.declared.time.Time.{Time}
 use Rattle.rules.specs.declared.Zone.{Zone}
 use Rattle.times.specs.declared.offset.Offset.{Offset}
-use Rattle.std.specs.Prelude.{ℕ, zero, suc, ◌+◌, ◌-◌, ◌%◌, Bool, true, false, List, [], ◌∷◌, eqb, ℤ, pos, negsuc, ◌+ℤ◌, ◌*ℤ◌}
+use Rattle.std.specs.Prelude.{ℕ, zero, suc, Bool, true, false, List, [], ◌∷◌, eqb, ℤ, pos, negsuc, ◌+ℤ◌, ◌*ℤ◌}
 use Rattle.integers.specs.Integers.{in_i32}
+use Rattle.calendar.specs.Calendar.{next_weekday}
 use Rattle.answers.specs.Outcome.{Outcome, accepted, check, ◌>>=◌, ◌>>◌}
 use Rattle.extended.specs.Extended.{date, time, accept, with_date, with_time, with_offset, add_seconds, add_days, add_hours, add_minutes, add_years, add_months, weekday_monday0}
 use Rattle.extended.specs.declared.ExtendedDateTime.{ExtendedDateTime}
@@ -58,9 +59,14 @@ nearer (negsuc n) = negsuc n
 unfoldable pub weeks : ℤ → Bool → ℤ
 weeks n same = cond same n (nearer n)
 
--- the days from one day of the week to the next that is another, 0 to itself
-unfoldable pub ahead : ℕ → ℕ → ℕ
-ahead today target = (target % 7 + 7 - today % 7) % 7
+-- The days from one day of the week to the next that is another, 0 to itself: counted day by day, at most so many. It is the least number of
+-- days after which the weekday is the other (proofs/Weekdays.antt, `least`).
+unfoldable pub days_to : ℕ → ℕ → ℕ → ℕ
+days_to zero today target = 0
+days_to (suc most) today target = cond (eqb today target) 0 (suc (days_to most (next_weekday today) target))
+
+abbrev pub ahead : ℕ → ℕ → ℕ
+ahead today target = days_to 6 today target
 
 -- the weeks in days plus the days ahead; 18 if the product or the sum leaves an i32
 unfoldable pub weekday_sum : ℤ → ℕ → Outcome ℤ

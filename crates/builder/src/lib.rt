@@ -2,7 +2,7 @@
 
 #![tactic(auto)]
 
-ghost use Rattle.std.specs.Prelude.{◌≡◌};
+ghost use Rattle.std.specs.Prelude.{◌≡◌, ◌<◌};
 ghost use Rattle.answers.specs.Refusals.{outcome_of, placed_of};
 ghost use Rattle.builder.specs.Building.{start, on_date, on_offset, on_time, ahead, weeks, weekday_sum, delta, forwarded, on_weekday, add_relative, add_relatives, with_zone, on_zone, absolute, build_extended, built};
 
@@ -105,7 +105,7 @@ fn on_offset(given: Option<Offset>, dt: ExtendedDateTime) -> Result<ExtendedDate
 }
 
 // The clock is at midnight or at the time that is given.
-#[tactic(auto, unfolding(crate::specs::Building::on_weekday))]
+#[tactic(auto, using(crate::proofs::Weekdays::today_below), unfolding(crate::specs::Building::on_weekday))]
 fn on_weekday(given: Option<Weekday>, dt: ExtendedDateTime) -> Result<ExtendedDateTime, Refusal>
     ensures { outcome_of result ≡ on_weekday given dt }
 {
@@ -123,6 +123,7 @@ fn forwarded(
     today: u32,
     dt: ExtendedDateTime,
 ) -> Result<ExtendedDateTime, Refusal>
+    requires { today < 7 }
     ensures { outcome_of result ≡ forwarded weekday today dt }
 {
     let days = delta(weekday, today)?;
@@ -130,8 +131,9 @@ fn forwarded(
 }
 
 // The days from today to the weekday.
-#[tactic(auto, unfolding(crate::specs::Building::delta))]
+#[tactic(auto, using(crate::proofs::Weekdays::day_below), unfolding(crate::specs::Building::delta))]
 fn delta(weekday: Weekday, today: u32) -> Result<i32, Refusal>
+    requires { today < 7 }
     ensures { outcome_of result ≡ delta weekday today }
 {
     let target = u32::from(items::day_index(weekday.day));
@@ -139,11 +141,12 @@ fn delta(weekday: Weekday, today: u32) -> Result<i32, Refusal>
 }
 
 // The days from one day of the week to the next that is another, 0 to itself.
-#[tactic(auto, unfolding(crate::specs::Building::ahead))]
+#[tactic(auto, using(crate::proofs::Weekdays::ahead_requested))]
 fn ahead(today: u32, target: u32) -> u32
+    requires { (today < 7) × (target < 7) }
     ensures { result ≡ ahead today target }
 {
-    (target % 7 + 7 - today % 7) % 7
+    (target + 7 - today) % 7
 }
 
 // The weeks to add: one less if they are above 0 and today is another day of the week.
