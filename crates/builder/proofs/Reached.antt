@@ -11,11 +11,12 @@ use Rattle.answers.proofs.Outcomes.{same, first_passed, step_passed}
 use Rattle.answers.specs.Outcome.{Outcome, accepted, refused, ◌>>=◌}
 use Rattle.calendar.proofs.Counting.{weekday_closed}
 use Rattle.extended.specs.Calendar.{day_number, weekday, monday_weekday}
-use Rattle.extended.specs.Extended.{test, clock_seconds, time, with_time, moment, add_days, weekday_monday0}
+use Rattle.extended.specs.Extended.{test, clock_seconds, moment, add_days, weekday_monday0}
 use Rattle.extended.specs.declared.ExtendedDateTime.{ExtendedDateTime}
 use Rattle.extended.proofs.Moments.{moment_back}
-use Rattle.extended.proofs.Records.{Accepted, facts, tested}
-use Rattle.extended.proofs.Adding.{units_from}
+use Rattle.extended.proofs.Records.{Accepted, facts}
+use Rattle.extended.proofs.Theorems.{units_exact}
+use Rattle.builder.specs.Weekdays.{weekday_of, days_away, Reached, FromMidnight}
 use Rattle.items.specs.Items.{day_index}
 use Rattle.items.specs.declared.Weekday.{Weekday}
 use Rattle.std.specs.Prelude.{Option, Some, None}
@@ -27,10 +28,6 @@ use Rattle.items.specs.declared.Item.TheVariants as item
 use Rattle.rules.specs.Rules.{empty, need_midnight, set_item, set_weekday, gather, relatives}
 use Rattle.rules.specs.declared.DateTimeBuilder.{DateTimeBuilder}
 use Rattle.builder.specs.Building.{start, on_date, on_time, ahead, weeks, weekday_sum, delta, forwarded, on_weekday, add_relatives, on_zone, absolute, build_extended, built, build}
-
--- the number of a record's weekday, from Monday, 0
-abbrev pub weekday_of : ExtendedDateTime → ℕ
-weekday_of r = monday_weekday (day_number r.year r.month r.day)
 
 -- ---- the count is the least one
 
@@ -102,15 +99,6 @@ module _ (r s : ExtendedDateTime) (a : Accepted r) (b : Accepted s) where
 
 -- ---- what is meant
 
--- The record s is on that day of the week: so many weeks and k days after r, k below 7 and the least that leads from r's weekday to it.
-pub record Reached (w : Weekday) (r s : ExtendedDateTime) : Type 0 where
-  pub is_accepted : test s ≡ accepted tt
-  pub on_day : weekday_of s ≡ day_index w.day
-  pub few : ahead (weekday_of r) (day_index w.day) < 7
-  pub has_moment : moment s ≡ moment r +ℤ (weeks w.offset (eqb (weekday_of r) (day_index w.day)) *ℤ pos 7 +ℤ pos (ahead (weekday_of r) (day_index w.day))) *ℤ pos 86400
-  pub has_nanosecond : s.nanosecond ≡ r.nanosecond
-  pub has_offset : s.offset_seconds ≡ r.offset_seconds
-
 sum_is : (n : ℤ) (k : ℕ) (d : ℤ) → weekday_sum n k ≡ accepted d → n *ℤ pos 7 +ℤ pos k ≡ d
 unfolding weekday_sum
 sum_is n k d e =
@@ -125,15 +113,12 @@ module _ (w : Weekday) (r s : ExtendedDateTime) where
   abbrev today : ℕ
   today = weekday_of r
 
-  abbrev days : ℤ
-  days = weeks w.offset (eqb today target) *ℤ pos 7 +ℤ pos (ahead today target)
-
-  on_target : Accepted r → Accepted s → moment s ≡ moment r +ℤ days *ℤ pos 86400 → s.offset_seconds ≡ r.offset_seconds → weekday_of s ≡ day_index w.day
+  on_target : Accepted r → Accepted s → moment s ≡ moment r +ℤ days_away w r *ℤ pos 86400 → s.offset_seconds ≡ r.offset_seconds → weekday_of s ≡ day_index w.day
   unfolding monday_weekday
   on_target a b m o =
       let n = weeks w.offset (eqb today target) in
       let k = ahead today target in
-      let c = clocks r s (days *ℤ pos 86400) m o ∙ ap (λ (z : ℤ). pos (clock_seconds r) +ℤ z *ℤ pos 86400) (in_days n k) in
+      let c = clocks r s (days_away w r *ℤ pos 86400) m o ∙ ap (λ (z : ℤ). pos (clock_seconds r) +ℤ z *ℤ pos 86400) (in_days n k) in
       let g = days_apart r s a b (forth n * 7 + k) (back n * 7) c in
       let p = weekday_closed 5 (day_number r.year r.month r.day) (omega arith) in
       let q = weekday_closed 5 (day_number s.year s.month s.day) (omega arith) in
@@ -147,20 +132,11 @@ module _ (w : Weekday) (r s : ExtendedDateTime) where
       let l = ahead_closed today target (omega (arith, p)) (day_below w.day) in
       omega (arith, l)
 
-  moved : test r ≡ accepted tt → add_days r days ≡ accepted s → Reached w r s
+  moved : test r ≡ accepted tt → add_days r (days_away w r) ≡ accepted s → Reached w r s
   unfolding add_days
   moved t e =
-      let a = facts r t in
-      let g = units_from 86400 r days s e in
-      let b = g.accepted_record in
-      record {
-        is_accepted = tested s b;
-        on_day = on_target a b g.moment_moved g.offset_kept;
-        few = below_7;
-        has_moment = g.moment_moved;
-        has_nanosecond = g.nanosecond_kept;
-        has_offset = g.offset_kept;
-      }
+      let g = (units_exact 86400 r (days_away w r) s t).0 e in
+      record { on_day = on_target (facts r t) (facts s g.is_accepted) g.has_moment g.has_offset; few = below_7; away = g }
 
   pub reached : on_weekday (Some w) r ≡ accepted s → Reached w r s
   unfolding on_weekday weekday_monday0 forwarded delta
@@ -191,15 +167,10 @@ weekday_built digits xs b w base s g r d z e =
     let k : on_weekday (Some w) j.value ≡ accepted s = ap (λ (x : Option Weekday). on_weekday x j.value) (sym d) ∙ j.then ∙ a.then in
     (reached w j.value s k).on_day
 
--- A weekday alone: from midnight of the base's day.
-pub record FromMidnight (w : Weekday) (base s : ExtendedDateTime) : Type 0 where
-  pub start : ExtendedDateTime
-  pub at_midnight : with_time base (time 0 0 0 0) ≡ accepted start
-  pub moved : Reached w start s
-
+-- A weekday alone leads from midnight of the base's day.
 pub weekday_alone : (digits : List ℕ) (w : Weekday) (base s : ExtendedDateTime) → build digits (item.Weekday w ∷ []) base ≡ fine s → FromMidnight w base s
 unfolding build built build_extended absolute add_relatives on_zone gather set_item set_weekday start need_midnight on_date on_time relatives
 weekday_alone digits w base s e =
     let a = step_passed _ _ (unplaced _ e) in
     let h = step_passed _ _ a.was in
-    record { start = h.value; at_midnight = h.was; moved = reached w h.value s (h.then ∙ a.then) }
+    record { start = h.value; at_midnight = h.was; reached = reached w h.value s (h.then ∙ a.then) }

@@ -1,2 +1,3 @@
 -- The definitions of the crate `builder`.
 pub mod Building
+pub mod Weekdays

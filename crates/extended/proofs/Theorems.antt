@@ -8,7 +8,7 @@ use lib.IntN.{ℤ, pos, ◌+ℤ◌, ◌*ℤ◌}
 use Rattle.answers.specs.Outcome.{accepted, refused}
 use Rattle.calendar.specs.Calendar.{leap, year_days, days_before_year, days_of_months, day_number, Valid, next_day, civil, next_weekday, weekday}
 use Rattle.extended.specs.Calendar.{monday_weekday, sunday_weekday}
-use Rattle.extended.specs.Extended.{make, time, date_of, test, clock_seconds, moment, from_unix_seconds, add_seconds, add_units, add_days, add_hours, add_minutes}
+use Rattle.extended.specs.Extended.{Recorded, make, time, date_of, test, clock_seconds, moment, from_unix_seconds, add_seconds, add_units, add_days, add_hours, add_minutes}
 use Rattle.calendar.specs.declared.Civil.{Civil}
 use Rattle.extended.specs.declared.ExtendedDateTime.{ExtendedDateTime}
 use Rattle.calendar.proofs.Counting.{weekday_closed}
@@ -24,13 +24,6 @@ some_date = place
 
 pub one_date : (s t : Civil ℕ) → Valid s → Valid t → day_of s ≡ day_of t → s ≡ t
 one_date = unique
-
--- the accepted record of a moment, a nanosecond and an offset
-pub record Recorded (u : ℤ) (n : ℕ) (o : ℤ) (r : ExtendedDateTime) : Type 0 where
-  pub is_accepted : test r ≡ accepted tt
-  pub has_moment : moment r ≡ u
-  pub has_nanosecond : r.nanosecond ≡ n
-  pub has_offset : r.offset_seconds ≡ o
 
 -- `from_unix_seconds` gives it where there is one, and nothing else: so there is at most one, and from the moment of every
 -- accepted record that record comes back

@@ -1,7 +1,7 @@
 -- What the functions of `extended`, `moments` and `sums` answer: docs/SCOPE.md, 'Records', 'Moments' and 'Sums'.
 use Rattle.answers.specs.Numbers as refusal
 use Rattle.answers.specs.Limits.{last_year}
-use Rattle.std.specs.Prelude.{ℕ, ◌+◌, ◌-◌, ◌*◌, ◌/◌, ◌%◌, min, ◌&&◌, cond, ltb, leb, ℤ, pos, negsuc, ◌+ℤ◌, ◌-ℤ◌, Option, Some, None}
+use Rattle.std.specs.Prelude.{ℕ, ◌≡◌, ◌+◌, ◌-◌, ◌*◌, ◌/◌, ◌%◌, min, ◌&&◌, cond, ltb, leb, ℤ, pos, negsuc, ◌+ℤ◌, ◌-ℤ◌, Option, Some, None}
 use Rattle.std.specs.Int.Signed.{le_z}
 use Rattle.integers.specs.Integers.{sum, product, natural_of}
 use Rattle.answers.specs.Outcome.{Outcome, accepted, refused, check, ◌>>=◌, ◌>>◌}
@@ -82,6 +82,13 @@ clock_seconds r = day_number r.year r.month r.day * 86400 + r.hour * 3600 + r.mi
 -- SCOPE, 'Moments': the seconds from 1970-01-01 00:00:00 at offset 0, in whole numbers without bound
 unfoldable pub moment : ExtendedDateTime → ℤ
 moment r = pos (clock_seconds r) -ℤ r.offset_seconds -ℤ pos 62167219200
+
+-- the accepted record of a moment, a nanosecond and an offset; there is at most one (proofs/Theorems.antt, `from_unix_seconds_exact`)
+pub record Recorded (u : ℤ) (n : ℕ) (o : ℤ) (r : ExtendedDateTime) : Type 0 where
+  pub is_accepted : test r ≡ accepted tt
+  pub has_moment : moment r ≡ u
+  pub has_nanosecond : r.nanosecond ≡ n
+  pub has_offset : r.offset_seconds ≡ o
 
 unfoldable pub unix_seconds : ExtendedDateTime → Outcome ℤ
 unix_seconds r = do

@@ -1,12 +1,12 @@
 -- The laws of `comment`, for a reader that calls itself on the inner comment: inside a comment, an inner one is read as a comment of its own,
 -- in the text without its last byte, and the reading goes on after it (`inside_open`). What is hard is that the last byte is not needed
 -- (`closing_deeper`). Assumes nothing.
-use borrow.Author.Tests.{leb-true, leb-false, ne_eqb}
+use borrow.Author.Tests.{leb-true, leb-false, eqb-true, eqb-false, ne_eqb}
 use native.Mathlib.Omega.{arith}
 use Prim.Native.Nat.{ℕ, zero, suc, ◌+◌, ◌<◌, ◌≤◌}
 use mathlib.Core.Path.{◌≡◌, refl, sym, ap, ◌∙◌}
 use mathlib.Core.List.{List, [], ◌∷◌, ◌++◌, append_assoc, map}
-use mathlib.Core.Bool.{Bool, true, false, cond}
+use mathlib.Core.Bool.{Bool, true, false, cond, ◌&&◌}
 use lib.ListN.{length, get_or, drop, length-drop, length-append, get_or-append}
 use lib.Seq.{drop-drop, drop-append-le}
 use Rattle.std.proofs.lemmas.List.{map-append}
@@ -203,3 +203,88 @@ nested_closing (inner {w = w} {bs = v} h g) d bs k =
 pub nested_comment : (w : List ℕ) → Nested w → (text rest : List ℕ) (at : ℕ) → drop at text ≡ 40 ∷ (w ++ (41 ∷ rest)) → comment text at ≡ matched tt (at + 1 + length w + 1)
 unfolding comment inside closing tag starts
 nested_comment w h text rest at e = rw (e, tail_of text at 40 (w ++ (41 ∷ rest)) e, nested_closing h 0 (41 ∷ rest) (at + 1))
+
+-- ---- the other way: what is read as a comment is such a text
+
+-- bytes that close d comments and the one around them: nested text before each `)`, and the rest
+data Closes : ℕ → List ℕ → List ℕ → Type 0 where
+  last : {bs rest : List ℕ} (w : List ℕ) → Nested w → bs ≡ w ++ (41 ∷ rest) → Closes zero bs rest
+  further : {d : ℕ} {bs rest : List ℕ} (w more : List ℕ) → Nested w → bs ≡ w ++ (41 ∷ more) → Closes d more rest → Closes (suc d) bs rest
+
+closes_other : (d b : ℕ) (bs rest : List ℕ) → (b ≡ 40 → ⊥) → (b ≡ 41 → ⊥) → Closes d bs rest → Closes d (b ∷ bs) rest
+closes_other d b bs rest f g (last w h e) = last (b ∷ w) (other f g h) (ap (λ (l : List ℕ). b ∷ l) e)
+closes_other d b bs rest f g (further w more h e c) = further (b ∷ w) more (other f g h) (ap (λ (l : List ℕ). b ∷ l) e) c
+
+closes_inner : (d : ℕ) (bs rest : List ℕ) → Closes (suc d) bs rest → Closes d (40 ∷ bs) rest
+closes_inner d bs rest (further w more h e c) = by c
+  where
+    joined : (v l : List ℕ) → more ≡ v ++ (41 ∷ l) → 40 ∷ bs ≡ (40 ∷ (w ++ (41 ∷ v))) ++ (41 ∷ l)
+    joined v l k = ap (λ (x : List ℕ). 40 ∷ x) (e ∙ ap (λ (x : List ℕ). w ++ (41 ∷ x)) k ∙ sym (append_assoc w (41 ∷ v) (41 ∷ l)))
+
+    by : {d : ℕ} → Closes d more rest → Closes d (40 ∷ bs) rest
+    by (last v i k) = last (40 ∷ (w ++ (41 ∷ v))) (inner h i) (joined v rest k)
+    by (further v l i k z) = further (40 ∷ (w ++ (41 ∷ v))) l (inner h i) (joined v l k) z
+
+-- where d comments and the one around them end, that text was closed
+record Ended (d : ℕ) (bs : List ℕ) (k n : ℕ) : Type 0 where
+  rest : List ℕ
+  closes : Closes d bs rest
+  place : n + length rest ≡ k + length bs
+
+ended : (d : ℕ) (bs : List ℕ) (k n : ℕ) → closing d bs k ≡ matched tt n → Ended d bs k n
+unfolding closing
+ended d [] k n h = cc
+ended zero (b ∷ bs) k n h = go (eqb b 41) (eqb b 40) refl refl (ended 1 bs (k + 1) n) (ended 0 bs (k + 1) n) h
+  where
+    go : (t u : Bool) → eqb b 41 ≡ t → eqb b 40 ≡ u → (closing 1 bs (k + 1) ≡ matched tt n → Ended 1 bs (k + 1) n) → (closing 0 bs (k + 1) ≡ matched tt n → Ended 0 bs (k + 1) n)
+        → cond t (matched tt (k + 1)) (cond u (closing 1 bs (k + 1)) (closing 0 bs (k + 1))) ≡ matched tt n → Ended 0 (b ∷ bs) k n
+    go true u e y f g h =
+        let z : k + 1 ≡ n = cc in
+        record { rest = bs; closes = last [] empty (ap (λ (c : ℕ). c ∷ bs) (eqb-true b 41 e)); place = omega arith }
+    go false true e y f g h =
+        let z = f h in
+        record { rest = z.rest; closes = rw (eqb-true b 40 y) (closes_inner 0 bs z.rest z.closes); place = omega (arith, z.place) }
+    go false false e y f g h =
+        let z = g h in
+        record { rest = z.rest; closes = closes_other 0 b bs z.rest (eqb-false b 40 y) (eqb-false b 41 e) z.closes; place = omega (arith, z.place) }
+ended (suc d) (b ∷ bs) k n h = go (eqb b 41) (eqb b 40) refl refl (ended (suc (suc d)) bs (k + 1) n) (ended (suc d) bs (k + 1) n) (ended d bs (k + 1) n) h
+  where
+    go : (t u : Bool) → eqb b 41 ≡ t → eqb b 40 ≡ u → (closing (suc (suc d)) bs (k + 1) ≡ matched tt n → Ended (suc (suc d)) bs (k + 1) n)
+        → (closing (suc d) bs (k + 1) ≡ matched tt n → Ended (suc d) bs (k + 1) n) → (closing d bs (k + 1) ≡ matched tt n → Ended d bs (k + 1) n)
+        → cond t (closing d bs (k + 1)) (cond u (closing (suc (suc d)) bs (k + 1)) (closing (suc d) bs (k + 1))) ≡ matched tt n → Ended (suc d) (b ∷ bs) k n
+    go true u e y f g i h =
+        let z = i h in
+        record { rest = z.rest; closes = further [] bs empty (ap (λ (c : ℕ). c ∷ bs) (eqb-true b 41 e)) z.closes; place = omega (arith, z.place) }
+    go false true e y f g i h =
+        let z = f h in
+        record { rest = z.rest; closes = rw (eqb-true b 40 y) (closes_inner (suc d) bs z.rest z.closes); place = omega (arith, z.place) }
+    go false false e y f g i h =
+        let z = g h in
+        record { rest = z.rest; closes = closes_other (suc d) b bs z.rest (eqb-false b 40 y) (eqb-false b 41 e) z.closes; place = omega (arith, z.place) }
+
+-- a comment at a place, and where it ends: nested text between parentheses
+pub record Comment (text : List ℕ) (at n : ℕ) : Type 0 where
+  pub within : List ℕ
+  pub rest : List ℕ
+  pub nested : Nested within
+  pub stands : drop at text ≡ 40 ∷ (within ++ (41 ∷ rest))
+  pub ends : n ≡ at + 1 + length within + 1
+
+pub comment_nested : (text : List ℕ) (at n : ℕ) → comment text at ≡ matched tt n → Comment text at n
+unfolding comment inside tag starts
+comment_nested text at n e = by (drop at text) refl e
+  where
+    closed : (rest bs : List ℕ) → drop at text ≡ 40 ∷ bs → n + length rest ≡ at + 1 + length bs → Closes 0 bs rest → Comment text at n
+    closed rest bs k m (last w h j) =
+        let l = ap length j ∙ length-append w (41 ∷ rest) in
+        record { within = w; rest = rest; nested = h; stands = k ∙ ap (λ (x : List ℕ). 40 ∷ x) j; ends = omega arith }
+
+    go : (b : ℕ) (bs : List ℕ) (t : Bool) → eqb b 40 ≡ t → drop at text ≡ b ∷ bs → and_then {A = Unit {0}} {B = Unit {0}} (cond (t && true) (matched tt (at + 1)) none) (λ v m. closing 0 (drop m text) m) ≡ matched tt n → Comment text at n
+    go b bs true f k h =
+        let z = ended 0 bs (at + 1) n (ap (λ (l : List ℕ). closing 0 l (at + 1)) (sym (tail_of text at b bs k)) ∙ h) in
+        closed z.rest bs (rw (eqb-true b 40 f) at k) z.place z.closes
+    go b bs false f k h = cc
+
+    by : (l : List ℕ) → drop at text ≡ l → and_then {A = Unit {0}} {B = Unit {0}} (cond (starts (40 ∷ []) l) (matched tt (at + 1)) none) (λ v m. closing 0 (drop m text) m) ≡ matched tt n → Comment text at n
+    by [] k h = cc
+    by (b ∷ bs) k h = go b bs (eqb b 40) refl k h

@@ -1,0 +1,2 @@
+-- The definitions of the crate `host_calls`.
+pub mod Calls
