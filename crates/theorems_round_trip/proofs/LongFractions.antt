@@ -3,7 +3,7 @@
 use borrow.Author.Tests.{leb-true, le-leb}
 use native.Mathlib.Omega.{arith}
 use Prim.Native.Nat.{ℕ, ◌≤◌}
-use mathlib.Core.Path.{◌≡◌, refl, ap, ◌∙◌}
+use mathlib.Core.Path.{◌≡◌, refl, ap}
 use mathlib.Core.List.{List, []}
 use mathlib.Core.Bool.{Bool, true, false, cond}
 use lib.Dec.{leb, eqb}
@@ -21,9 +21,9 @@ use Rattle.text_general.specs.Reading.{ascii_end, items_of, build_parsed, read_p
 use Rattle.text_general.proofs.Theorems.{same_text}
 use Rattle.host_answers.specs.Hosts.{placed_answer}
 use Rattle.host_answers.specs.declared.Answer.{Answer}
+use Rattle.host_calls.specs.Calls.{answer, ReadText}
 use Rattle.theorems_round_trip.proofs.Refusals.{Numbered, bounds, test_numbered}
 use Rattle.theorems_round_trip.proofs.BuildRefusals.{build_numbered}
-use Rattle.theorems_round_trip.proofs.Theorems.{Read}
 
 -- The base is accepted, and the text has at most 4096 bytes, each below 128: what is tested before any item is read.
 pub record Admitted (text : List ℕ) (base : ExtendedDateTime) : Type 0 where
@@ -77,18 +77,21 @@ module _ (text : List ℕ) (base : ExtendedDateTime) where
       go (accepted u) e n false f t g h = absurd (omega arith)
       go (refused k) e n s f t g h = let z = (bounds n).1 in absurd (omega arith)
 
-  module _ (a : Answer) (call : Read text base a) where
-    -- A text that is admitted, and has such an item at p, is answered with 22 at p, whatever follows the item.
-    pub loss_refused : (p : ℕ) → Admitted text base → LosesAt text p → (a.number ≡ 22) × (a.place ≡ p)
-    unfolding placed_answer
-    loss_refused p h d = let z = call.answer ∙ ap placed_answer (text_22 p h d) in (rw z refl, rw z refl)
+  -- what `seqtullo_read_text` returns
+  abbrev answered : Answer
+  answered = answer (ReadText text base)
 
-    -- A text that is not answered with 22 is answered as the Rust's reading has it.
-    pub no_loss : (a.number ≡ 22 → ⊥) → a ≡ placed_answer (rust_text text base)
-    unfolding placed_answer
-    no_loss h = call.answer ∙ ap placed_answer (same_text text base (λ e. h (rw call.answer e)))
+  -- A text that is admitted, and has such an item at p, is answered with 22 at p, whatever follows the item.
+  pub loss_refused : (p : ℕ) → Admitted text base → LosesAt text p → (answered.number ≡ 22) × (answered.place ≡ p)
+  unfolding placed_answer
+  loss_refused p h d = (ap number_of (text_22 p h d), ap place_of (text_22 p h d))
 
-    -- No other text is answered with 22, and the answer's place is that of such an item.
-    pub refused_loss : a.number ≡ 22 → Admitted text base × LosesAt text a.place
-    unfolding placed_answer
-    refused_loss e = rw call.answer (only_text (rw call.answer at e))
+  -- A text that is not answered with 22 is answered as the Rust's reading has it.
+  pub no_loss : (answered.number ≡ 22 → ⊥) → answered ≡ placed_answer (rust_text text base)
+  unfolding placed_answer
+  no_loss h = ap placed_answer (same_text text base h)
+
+  -- No other text is answered with 22, and the answer's place is that of such an item.
+  pub refused_loss : answered.number ≡ 22 → Admitted text base × LosesAt text answered.place
+  unfolding placed_answer
+  refused_loss e = only_text e

@@ -1,25 +1,24 @@
--- What writing and reading promise together, on the functions that hosts call: read this file first. A call enters by its contract:
--- `Wrote` is all that `seqtullo_write` ensures, `Read` all that `seqtullo_read_text` ensures. `test r ≡ accepted tt` says that `new`
--- refuses none of the numbers of r; `moment` is the counted calendar's, in whole numbers without bound. Assumes nothing.
+-- What writing and reading promise together, on the calls of hosts: read this file first. `Wrote` is the contract of `seqtullo_write`, and
+-- `answer (ReadText text base)` what `seqtullo_read_text` returns by its contract. `test r ≡ accepted tt` says that `new` refuses none of the
+-- numbers of r; `moment` is the counted calendar's, in whole numbers without bound. Assumes nothing.
 use native.Mathlib.Omega.{arith}
 use borrow.Author.Tests.{le-leb}
 use Prim.Native.Nat.{ℕ, ◌+◌, ◌/◌, ◌%◌, ◌<◌, ◌≤◌}
 use mathlib.Core.Path.{◌≡◌, refl, sym, ap, ap₂, ◌∙◌}
 use mathlib.Core.Bool.{Bool, true, false}
-use mathlib.Core.List.{List, ◌∷◌, ◌++◌}
+use mathlib.Core.List.{List, ◌++◌}
 use lib.IntN.{ℤ, pos, ◌+ℤ◌, +ℤ_idr}
-use lib.ListN.{length, take, drop}
+use lib.ListN.{length, drop}
 use lib.Seq.{take-append_seam, drop-append_seam}
 use Rattle.answers.specs.Outcome.{Outcome, accepted, refused}
-use Rattle.extended.specs.Extended.{blank_record, test, moment, add_seconds}
+use Rattle.extended.specs.Extended.{Recorded, test, moment, add_seconds}
 use Rattle.extended.specs.declared.ExtendedDateTime.{ExtendedDateTime}
 use Rattle.answers.proofs.Outcomes.{same}
 use Rattle.extended.proofs.Records.{facts}
-use Rattle.extended.proofs.Theorems.{Recorded, from_unix_seconds_exact, seconds_exact, seconds_refused}
+use Rattle.extended.proofs.Theorems.{from_unix_seconds_exact, seconds_exact, seconds_refused}
 use Rattle.primitive.specs.Ordinal.{signed}
-use Rattle.primitive.specs.Text.{bytes}
 use Rattle.answers.specs.Placed.{placed}
-use Rattle.writer.specs.Writer.{digits, sign_of, whole_minutes, text_of, written, bytes_of, written_answer, over}
+use Rattle.writer.specs.Writer.{text_of, written, bytes_of, written_answer, over}
 use Rattle.writer.specs.declared.Written.{Written}
 use Rattle.writer.proofs.Texts.{text_long}
 use Rattle.writer.proofs.Theorems.{one_owner}
@@ -28,34 +27,14 @@ use Rattle.theorems_round_trip.proofs.Texts.{shift, read_alone, read_moved}
 use Rattle.theorems_round_trip.proofs.Refusals.{bounds, Among, Low, fine_low, placed_low, add_seconds_numbered}
 use Rattle.theorems_round_trip.proofs.TextRefusals.{any_base}
 use Rattle.host_answers.specs.Hosts.{placed_answer}
+use Rattle.host_calls.specs.Calls.{answer, ReadText, Wrote}
+use Rattle.theorems_round_trip.specs.Promises.{Writable, seconds, text_in, Answered, there, nowhere}
 use Rattle.host_answers.specs.declared.Answer.{Answer}
-
--- `seqtullo_write` was called with r and the bytes `out`, answered w and left the bytes `left`
-pub record Wrote (r : ExtendedDateTime) (out : List ℕ) (w : Written) (left : List ℕ) : Type 0 where
-  pub answer : w ≡ written_answer (written r (length out))
-  pub bytes : left ≡ over (bytes_of (written r (length out))) out
-
--- `seqtullo_read_text` was called with the text and the base, and answered a
-pub record Read (text : List ℕ) (base : ExtendedDateTime) (a : Answer) : Type 0 where
-  pub answer : a ≡ placed_answer (read_text text base)
-
--- an accepted record with an offset of whole minutes
-pub record Writable (r : ExtendedDateTime) : Type 0 where
-  pub accepted_record : test r ≡ accepted tt
-  pub whole : whole_minutes r.offset_seconds ≡ true
-
--- a blank, the sign, N in decimal without leading zeros, a blank and `seconds`; a blank is 32, `-` is 45 for true and `+` is 43
-abbrev pub seconds : Bool → ℕ → List ℕ
-seconds minus n = 32 ∷ (sign_of minus ∷ (digits n ++ (32 ∷ bytes "seconds")))
 
 seconds_are : (minus : Bool) (n : ℕ) → shift minus n ≡ seconds minus n
 unfolding shift
 seconds_are true n = refl
 seconds_are false n = refl
-
--- SCOPE, 'The writer': a record's text is the first lent bytes, of the length that the writer answers
-abbrev pub text_in : Written → List ℕ → List ℕ
-text_in w left = take w.length left
 
 -- ---- sums without nanoseconds
 
@@ -75,7 +54,7 @@ written_whole r room k h = rw (k.accepted_record, k.whole, le-leb (length (text_
 
 module _ (r : ExtendedDateTime) (k : Writable r) (out : List ℕ) (room : 41 ≤ length out) (w : Written) (left : List ℕ) (call : Wrote r out w left) where
   answered : w ≡ record { number = 0; length = length (text_of r) }
-  answered = call.answer ∙ ap written_answer (written_whole r (length out) k room)
+  answered = call.answered ∙ ap written_answer (written_whole r (length out) k room)
 
   lent : left ≡ text_of r ++ drop (length (text_of r)) out
   lent = call.bytes ∙ ap (λ o. over (bytes_of o) out) (written_whole r (length out) k room)
@@ -93,20 +72,14 @@ module _ (r : ExtendedDateTime) (k : Writable r) (out : List ℕ) (room : 41 ≤
 
   module _ (base : ExtendedDateTime) (b : test base ≡ accepted tt) where
     -- The text, read under any accepted base, is the record.
-    pub reads_back : (a : Answer) → Read (text_in w left) base a → a ≡ record { number = 0; place = 0; «record» = r }
+    pub reads_back : answer (ReadText (text_in w left) base) ≡ record { number = 0; place = 0; «record» = r }
     unfolding placed_answer
-    reads_back a c = c.answer ∙ ap placed_answer (ap (λ l. read_text l base) text_in_lem ∙ read_alone base r b k.accepted_record k.whole)
-
-    -- The answer to a text whose moment should be u: the one accepted record there, with the written record's nanosecond and offset, or
-    -- a refusal, and then no accepted record has that moment and offset.
-    pub data Answered (u : ℤ) (a : Answer) : Type 0 where
-      there : a.number ≡ 0 → Recorded u r.nanosecond r.offset_seconds a.«record» → Answered u a
-      nowhere : 0 < a.number → a.«record» ≡ blank_record → ((s : ExtendedDateTime) → test s ≡ accepted tt → moment s ≡ u → s.offset_seconds ≡ r.offset_seconds → ⊥) → Answered u a
+    reads_back = ap placed_answer (ap (λ l. read_text l base) text_in_lem ∙ read_alone base r b k.accepted_record k.whole)
 
     -- The text with N seconds behind it, N from 0 to 9223372036854775807, read under any accepted base.
-    pub reads_moved : (minus : Bool) (n : ℕ) → n ≤ 9223372036854775807 → (a : Answer) → Read (text_in w left ++ seconds minus n) base a → Answered (moment r +ℤ signed minus n) a
+    pub reads_moved : (minus : Bool) (n : ℕ) → n ≤ 9223372036854775807 → Answered r (moment r +ℤ signed minus n) (answer (ReadText (text_in w left ++ seconds minus n) base))
     unfolding placed_answer
-    reads_moved minus n h a c = by (add_seconds r (signed minus n) 0) refl
+    reads_moved minus n h = by (answer (ReadText (text_in w left ++ seconds minus n) base)) e (add_seconds r d 0) refl
       where
         d : ℤ
         d = signed minus n
@@ -117,26 +90,26 @@ module _ (r : ExtendedDateTime) (k : Writable r) (out : List ℕ) (room : 41 ≤
         small : r.nanosecond + 0 < 2000000000
         small = omega (arith, (facts r t).nanosecond_high)
 
-        e : a ≡ placed_answer (placed 0 (add_seconds r d 0))
-        e = c.answer ∙ ap placed_answer (ap₂ (λ (l : List ℕ) (m : List ℕ). read_text (l ++ m) base) text_in_lem (sym (seconds_are minus n)) ∙ read_moved base r b t k.whole minus n (omega arith))
+        e : answer (ReadText (text_in w left ++ seconds minus n) base) ≡ placed_answer (placed 0 (add_seconds r d 0))
+        e = ap placed_answer (ap₂ (λ (l : List ℕ) (m : List ℕ). read_text (l ++ m) base) text_in_lem (sym (seconds_are minus n)) ∙ read_moved base r b t k.whole minus n (omega arith))
 
-        by : (o : Outcome ExtendedDateTime) → add_seconds r d 0 ≡ o → Answered (moment r +ℤ d) a
-        by (accepted s) q = there (rw (e, q)) (rw (e, q) (recorded r (moment r +ℤ d) s t ((seconds_exact r d 0 s t small).0 q)))
-        by (refused j) q = nowhere (rw (e, q) (bounds (rw q at (add_seconds_numbered r d 0))).0) (rw (e, q)) (λ s ts m o. seconds_refused r d 0 j t small q s ts (m ∙ sym (no_carry r (moment r +ℤ d) t)) o)
+        by : (a : Answer) → a ≡ placed_answer (placed 0 (add_seconds r d 0)) → (o : Outcome ExtendedDateTime) → add_seconds r d 0 ≡ o → Answered r (moment r +ℤ d) a
+        by a e (accepted s) q = there (rw (e, q)) (rw (e, q) (recorded r (moment r +ℤ d) s t ((seconds_exact r d 0 s t small).0 q)))
+        by a e (refused j) q = nowhere (rw (e, q) (bounds (rw q at (add_seconds_numbered r d 0))).0) (rw (e, q)) (λ s ts m o. seconds_refused r d 0 j t small q s ts (m ∙ sym (no_carry r (moment r +ℤ d) t)) o)
 
   -- ---- no digit of it is lost
 
   module _ (base : ExtendedDateTime) where
-    undropped : (text : List ℕ) → (test base ≡ accepted tt → Among Low (read_text text base)) → (a : Answer) → Read text base a → a.number ≡ 22 → ⊥
+    undropped : (text : List ℕ) → (test base ≡ accepted tt → Among Low (read_text text base)) → (answer (ReadText text base)).number ≡ 22 → ⊥
     unfolding placed_answer
-    undropped text h a c e = let low : a.number ≤ 20 = rw c.answer (any_base text base h).number in omega arith
+    undropped text h e = let low : (answer (ReadText text base)).number ≤ 20 = (any_base text base h).number in omega arith
 
     -- The text, read under any base, be it refused or not, is never answered with 22.
-    pub written_undropped : (a : Answer) → Read (text_in w left) base a → a.number ≡ 22 → ⊥
+    pub written_undropped : (answer (ReadText (text_in w left) base)).number ≡ 22 → ⊥
     written_undropped = undropped (text_in w left) (λ b. rw (text_in_lem, read_alone base r b k.accepted_record k.whole) (fine_low r))
 
     -- Nor is the text with N seconds after it, N from 0 to 9223372036854775807.
-    pub moved_undropped : (minus : Bool) (n : ℕ) → n ≤ 9223372036854775807 → (a : Answer) → Read (text_in w left ++ seconds minus n) base a → a.number ≡ 22 → ⊥
+    pub moved_undropped : (minus : Bool) (n : ℕ) → n ≤ 9223372036854775807 → (answer (ReadText (text_in w left ++ seconds minus n) base)).number ≡ 22 → ⊥
     moved_undropped minus n h =
         undropped (text_in w left ++ seconds minus n)
         (λ b. rw (text_in_lem, ← seconds_are minus n, read_moved base r b k.accepted_record k.whole minus n (omega arith)) (placed_low 0 (add_seconds_numbered r (signed minus n) 0)))
