@@ -1,2 +1,3 @@
 -- The definitions of the crate `host_calls`.
 pub mod Calls
+pub mod Given

@@ -1,4 +1,4 @@
--- Whatever is built is accepted: number 0 is given to accepted records alone, for every base and every list of items. Assumes nothing.
+-- Whatever is built is accepted, for every base and every list of items. Assumes nothing.
 use Rattle.std.specs.Prelude.{Option, Some, None}
 use Rattle.items.specs.declared.Item.{Item}
 use Rattle.dates.specs.declared.date.Date.{Date}
@@ -37,21 +37,21 @@ refusal_good n r e = apart e
 itself : (s : ExtendedDateTime) → test s ≡ accepted tt → Good (accepted s)
 itself s t r e = rw (sym (same e)) t
 
-then_good : {A : Type 0} (p : Outcome A) (f : A → Outcome ExtendedDateTime) → ((a : A) → p ≡ accepted a → Good (f a)) → Good (p >>= f)
+pub then_good : {A : Type 0} (p : Outcome A) (f : A → Outcome ExtendedDateTime) → ((a : A) → p ≡ accepted a → Good (f a)) → Good (p >>= f)
 then_good (accepted a) f g = g a refl
 then_good (refused n) f g = refusal_good n
 
-behind : (p : Outcome (Unit {0})) (q : Outcome ExtendedDateTime) → Good q → Good (p >> q)
+pub behind : (p : Outcome (Unit {0})) (q : Outcome ExtendedDateTime) → Good q → Good (p >> q)
 behind (accepted u) q g = g
 behind (refused n) q g = refusal_good n
 
-accept_good : (s : ExtendedDateTime) → Good (accept s)
+pub accept_good : (s : ExtendedDateTime) → Good (accept s)
 unfolding accept
 accept_good s r e =
     let p = first_passed (test s) (accepted s) e in
     rw (sym (same p.1)) p.0
 
-unix_good : (u : ℤ) (n : ℕ) (o : ℤ) → Good (from_unix_seconds u n o)
+pub unix_good : (u : ℤ) (n : ℕ) (o : ℤ) → Good (from_unix_seconds u n o)
 unix_good u n o r e = ((from_unix_seconds_exact u n o r).0 e).is_accepted
 
 -- ---- the calendar's steps
@@ -77,7 +77,7 @@ module _ (dt : ExtendedDateTime) where
       by true = unix_good s n o
       by false = then_good (checked (sum s (pos 1))) (λ next. from_unix_seconds next (n - 1000000000) o) (λ z h. unix_good z (n - 1000000000) o)
 
-  seconds_good : (d : ℤ) (k : ℕ) → Good (add_seconds dt d k)
+  pub seconds_good : (d : ℤ) (k : ℕ) → Good (add_seconds dt d k)
   unfolding add_seconds
   seconds_good d k =
       behind (test dt) _
@@ -87,15 +87,15 @@ module _ (dt : ExtendedDateTime) where
   unfolding add_units
   units_good w n = behind (test dt) _ (then_good (checked (product n (pos w))) _ (λ d h. seconds_good d 0))
 
-  days_good : (n : ℤ) → Good (add_days dt n)
+  pub days_good : (n : ℤ) → Good (add_days dt n)
   unfolding add_days
   days_good n = units_good 86400 n
 
-  hours_good : (n : ℤ) → Good (add_hours dt n)
+  pub hours_good : (n : ℤ) → Good (add_hours dt n)
   unfolding add_hours
   hours_good n = units_good 3600 n
 
-  minutes_good : (n : ℤ) → Good (add_minutes dt n)
+  pub minutes_good : (n : ℤ) → Good (add_minutes dt n)
   unfolding add_minutes
   minutes_good n = units_good 60 n
 
@@ -106,13 +106,13 @@ module _ (dt : ExtendedDateTime) where
       behind (test_year y) _
       (then_good (with_date dt (date y m (min dt.day (month_days y m)))) _ (λ next h. days_good next (pos (dt.day - month_days y m))))
 
-  years_good : (n : ℤ) → Good (add_years dt n)
+  pub years_good : (n : ℤ) → Good (add_years dt n)
   unfolding add_years
   years_good n =
       behind (test dt) _
       (then_good (checked (sum (pos dt.year) n)) _ (λ s h. then_good (from_zero (natural_of s)) _ (λ y k. clamp_good y dt.month)))
 
-  months_good : (n : ℤ) → Good (add_months dt n)
+  pub months_good : (n : ℤ) → Good (add_months dt n)
   unfolding add_months
   months_good n =
       behind (test dt) _

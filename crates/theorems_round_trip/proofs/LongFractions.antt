@@ -21,9 +21,10 @@ use Rattle.text_general.specs.Reading.{ascii_end, items_of, build_parsed, read_p
 use Rattle.text_general.proofs.Theorems.{same_text}
 use Rattle.host_answers.specs.Hosts.{placed_answer}
 use Rattle.host_answers.specs.declared.Answer.{Answer}
+use Rattle.host_calls.specs.Given.{record_numbers}
 use Rattle.host_calls.specs.Calls.{answer, ReadText}
-use Rattle.theorems_round_trip.proofs.Refusals.{Numbered, bounds, test_numbered}
-use Rattle.theorems_round_trip.proofs.BuildRefusals.{build_numbered}
+use Rattle.theorems_round_trip.proofs.Refusals.{Numbered, given, not_in, not_among, test_numbered}
+use Rattle.theorems_round_trip.proofs.BuildRefusals.{build_among}
 
 -- The base is accepted, and the text has at most 4096 bytes, each below 128: what is tested before any item is read.
 pub record Admitted (text : List ℕ) (base : ExtendedDateTime) : Type 0 where
@@ -48,7 +49,7 @@ module _ (base : ExtendedDateTime) where
     where
       go : (t : Bool) → number_of (cond t (fine a.items) (refusal a.number a.place) >>= (λ xs. build [] xs base)) ≡ 22
           → Refused a (place_of (cond t (fine a.items) (refusal a.number a.place) >>= (λ xs. build [] xs base)))
-      go true e = absurd (omega (arith, build_numbered [] a.items base))
+      go true e = absurd (not_among 22 refl (build_among [] a.items base) e)
       go false e = (e, refl)
 
 -- ---- the calls
@@ -67,7 +68,7 @@ module _ (text : List ℕ) (base : ExtendedDateTime) where
       tail : Bool → Bool → Placed ExtendedDateTime
       tail s t = placed 0 (check s 1) >> (placed (ascii_end (lowered text)) (check t 2) >> build_parsed (parse_items (lowered text)) base)
 
-      go : (o : Outcome (Unit {0})) → test base ≡ o → Numbered o → (s : Bool) → leb (length (lowered text)) 4096 ≡ s → (t : Bool) → leb (length (lowered text)) (ascii_end (lowered text)) ≡ t
+      go : (o : Outcome (Unit {0})) → test base ≡ o → Numbered record_numbers o → (s : Bool) → leb (length (lowered text)) 4096 ≡ s → (t : Bool) → leb (length (lowered text)) (ascii_end (lowered text)) ≡ t
           → number_of (placed 0 o >> tail s t) ≡ 22 → Admitted text base × LosesAt text (place_of (placed 0 o >> tail s t))
       go (accepted u) e n true f true g h = (
         record { accepted_base = e; short = leb-true (length (lowered text)) 4096 f; ascii = leb-true (length (lowered text)) (ascii_end (lowered text)) g },
@@ -75,7 +76,7 @@ module _ (text : List ℕ) (base : ExtendedDateTime) where
       )
       go (accepted u) e n true f false g h = absurd (omega arith)
       go (accepted u) e n false f t g h = absurd (omega arith)
-      go (refused k) e n s f t g h = let z = (bounds n).1 in absurd (omega arith)
+      go (refused k) e n s f t g h = absurd (not_in record_numbers k 22 refl (given n) h)
 
   -- what `seqtullo_read_text` returns
   abbrev answered : Answer

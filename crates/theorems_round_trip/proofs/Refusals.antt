@@ -1,12 +1,19 @@
--- The calendar refuses with numbers from 1 to 20 only. Each law is named after the definition whose refusals it bounds, and `search` puts
--- it together as that definition is put together. Assumes nothing.
+-- Which numbers the calendar refuses with. Each law is named after the definition whose refusals it bounds, and `search` puts it together as
+-- that definition is put together. Assumes nothing.
 use native.Mathlib.Omega.{arith}
-use Prim.Native.Nat.{ℕ, ◌<◌, ◌≤◌}
-use mathlib.Core.Bool.{Bool, true, false, cond}
+use Prim.Native.Nat.{ℕ, zero, suc, ◌<◌}
+use mathlib.Core.Path.{◌≡◌, refl, sym, ◌∙◌}
+use Rattle.integers.proofs.Differences.{untrue}
+use mathlib.Core.List.{List, [], ◌∷◌}
+use lib.Dec.{eqb}
+use borrow.Author.Tests.{eqb-true}
+use mathlib.Core.Bool.{Bool, true, false, cond, ◌||◌, ◌&&◌}
 use lib.IntN.{ℤ}
 use borrow.Author.Rules.{rules}
 use Rattle.std.specs.Prelude.{Option, Some, None}
 use Rattle.answers.specs.Outcome.{Outcome, accepted, refused, check, ◌>>=◌, ◌>>◌}
+use Rattle.primitive.proofs.Rows.{halves}
+use Rattle.host_calls.specs.Given.{has, record_numbers, moment_numbers, sum_numbers}
 use Rattle.extended.specs.Extended.{checked, from_zero, test_date, test_time, test_offset, test, test_year, date, accept, from_clock, from_unix_seconds, with_date, with_time, with_offset, carried, add_seconds, add_units, add_days, add_hours, add_minutes, clamp, add_years, add_months}
 use Rattle.answers.specs.Placed as placing
 use Rattle.answers.specs.Placed.{Placed, fine, refusal, placed, number_of}
@@ -18,126 +25,186 @@ use Rattle.relative.specs.declared.Relative.TheVariants as relative
 use Rattle.rules.specs.Rules.{wanted}
 use Rattle.builder.specs.Building.{add_relative}
 
--- a value, or a refusal with a number from 1 to 20: the numbers of the base
-pub data Numbered {A : Type 0} : Outcome A → Type 0 where
-  value : (a : A) → Numbered (accepted a)
-  by_number : (k : ℕ) → 0 < k → k ≤ 20 → Numbered (refused k)
+-- a value, or a refusal with a number of the list
+pub data Numbered (g : List ℕ) {A : Type 0} : Outcome A → Type 0 where
+  value : (a : A) → Numbered g (accepted a)
+  by_number : (k : ℕ) → has g k ≡ true → Numbered g (refused k)
 
-pub bounds : {A : Type 0} {k : ℕ} → Numbered {A = A} (refused k) → (0 < k) × (k ≤ 20)
-bounds (by_number k low high) = (low, high)
+-- whether each number of one list is in another
+abbrev pub covers : List ℕ → List ℕ → Bool
+covers [] h = true
+covers (n ∷ ns) h = has h n && covers ns h
 
-pub then : {A B : Type 0} {p : Outcome A} {f : A → Outcome B} → Numbered p → ((a : A) → Numbered (f a)) → Numbered (p >>= f)
-then (value a) g = g a
-then (by_number k low high) g = by_number k low high
+pub has_covers : (g h : List ℕ) (k : ℕ) → covers g h ≡ true → has g k ≡ true → has h k ≡ true
+has_covers [] h k c e = cc
+has_covers (n ∷ ns) h k c e = by (λ f. has_covers ns h k both.1 f) (eqb k n) refl e
+  where
+    both : (has h n ≡ true) × (covers ns h ≡ true)
+    both = halves (has h n) (covers ns h) c
 
-pub next : {B : Type 0} {p : Outcome (Unit {0})} {q : Outcome B} → Numbered p → Numbered q → Numbered (p >> q)
-next (value a) g = g
-next (by_number k low high) g = by_number k low high
+    by : (has ns k ≡ true → has h k ≡ true) → (t : Bool) → eqb k n ≡ t → t || has ns k ≡ true → has h k ≡ true
+    by later true f z = rw (eqb-true k n f) both.0
+    by later false f z = later z
 
-pub check_numbered : (b : Bool) (k : ℕ) → 0 < k → k ≤ 20 → Numbered (check b k)
-check_numbered true k low high = value tt
-check_numbered false k low high = by_number k low high
+-- a number that is in a list is none that is not
+pub not_in : (g : List ℕ) (k n : ℕ) → has g n ≡ false → has g k ≡ true → k ≡ n → ⊥
+not_in g k n f e z = untrue (sym f ∙ rw z at e)
 
-pub cond_numbered : {A : Type 0} (b : Bool) {p q : Outcome A} → Numbered p → Numbered q → Numbered (cond b p q)
-cond_numbered true h g = h
-cond_numbered false h g = g
+pub positive : (g : List ℕ) (k : ℕ) → has g 0 ≡ false → has g k ≡ true → 0 < k
+positive g zero f e = absurd (not_in g 0 0 f e refl)
+positive g (suc k) f e = omega arith
 
-pub checked_numbered : (c : Option ℤ) → Numbered (checked c)
-checked_numbered (Some z) = value z
-checked_numbered None = by_number 18 (omega arith) (omega arith)
+module _ {g : List ℕ} where
+  pub wider : {A : Type 0} {o : Outcome A} (h : List ℕ) → covers g h ≡ true → Numbered g o → Numbered h o
+  wider h c (value a) = value a
+  wider h c (by_number k e) = by_number k (has_covers g h k c e)
 
-pub from_zero_numbered : (c : Option ℕ) → Numbered (from_zero c)
-from_zero_numbered (Some k) = value k
-from_zero_numbered None = by_number 10 (omega arith) (omega arith)
+  pub given : {A : Type 0} {k : ℕ} → Numbered g {A = A} (refused k) → has g k ≡ true
+  given (by_number k e) = e
 
-pub wanted_numbered : (k : ℕ) → 0 < k → k ≤ 20 → (a : Answer ℕ) → Numbered (wanted k a)
-wanted_numbered k low high (matched v n) = value v
-wanted_numbered k low high (dropped v n) = by_number k low high
-wanted_numbered k low high none = by_number k low high
-wanted_numbered k low high stop = by_number k low high
+  pub then : {A B : Type 0} {p : Outcome A} {f : A → Outcome B} → Numbered g p → ((a : A) → Numbered g (f a)) → Numbered g (p >>= f)
+  then (value a) f = f a
+  then (by_number k e) f = by_number k e
+
+  pub next : {B : Type 0} {p : Outcome (Unit {0})} {q : Outcome B} → Numbered g p → Numbered g q → Numbered g (p >> q)
+  next (value a) h = h
+  next (by_number k e) h = by_number k e
+
+  pub check_numbered : (b : Bool) (k : ℕ) → has g k ≡ true → Numbered g (check b k)
+  check_numbered true k e = value tt
+  check_numbered false k e = by_number k e
+
+  pub cond_numbered : {A : Type 0} (b : Bool) {p q : Outcome A} → Numbered g p → Numbered g q → Numbered g (cond b p q)
+  cond_numbered true h k = h
+  cond_numbered false h k = k
+
+  pub checked_numbered : (c : Option ℤ) → has g 18 ≡ true → Numbered g (checked c)
+  checked_numbered (Some z) e = value z
+  checked_numbered None e = by_number 18 e
+
+  pub from_zero_numbered : (c : Option ℕ) → has g 10 ≡ true → Numbered g (from_zero c)
+  from_zero_numbered (Some k) e = value k
+  from_zero_numbered None e = by_number 10 e
+
+  pub wanted_numbered : (k : ℕ) → has g k ≡ true → (a : Answer ℕ) → Numbered g (wanted k a)
+  wanted_numbered k e (matched v n) = value v
+  wanted_numbered k e (dropped v n) = by_number k e
+  wanted_numbered k e none = by_number k e
+  wanted_numbered k e stop = by_number k e
 
 pub ruleset steps = (value, by_number, then, next, check_numbered, cond_numbered, checked_numbered, from_zero_numbered, wanted_numbered, rules)
 
 -- ---- answers with a place
 
--- an answer whose number is one of P
-pub record Among {A : Type 0} (P : ℕ → Type 0) (p : Placed A) : Type 0 where
-  pub number : P (number_of p)
+or_0 : (g : List ℕ) (k : ℕ) → has g k ≡ true → has (0 ∷ g) k ≡ true
+or_0 g k e = rw e (by (eqb k 0))
+  where
+    by : (t : Bool) → t || true ≡ true
+    by true = refl
+    by false = refl
 
--- the numbers to 20
-abbrev pub Low : ℕ → Type 0
-Low n = n ≤ 20
+-- a value, or a refusal whose number is one of the list
+pub data Among (g : List ℕ) {A : Type 0} : Placed A → Type 0 where
+  a_value : (a : A) → Among g (fine a)
+  a_refusal : (k at : ℕ) → has g k ≡ true → Among g (refusal k at)
 
-module _ {A B : Type 0} {P : ℕ → Type 0} where
-  pub first_then : {p : Placed A} {f : A → Placed B} → Among P p → ((a : A) → Among P (f a)) → Among P (placing.◌>>=◌ p f)
-  first_then {p = fine a} h g = g a
-  first_then {p = refusal n at} h g = record { number = h.number }
+module _ {g : List ℕ} where
+  pub first_then : {A B : Type 0} {p : Placed A} {f : A → Placed B} → Among g p → ((a : A) → Among g (f a)) → Among g (placing.◌>>=◌ p f)
+  first_then (a_value a) f = f a
+  first_then (a_refusal k at e) f = a_refusal k at e
 
-  pub step_then : {p : Placed A} {q : Placed B} → Among P p → Among P q → Among P (placing.◌>>◌ p q)
-  step_then {p = fine a} h g = g
-  step_then {p = refusal n at} h g = record { number = h.number }
+  pub step_then : {A B : Type 0} {p : Placed A} {q : Placed B} → Among g p → Among g q → Among g (placing.◌>>◌ p q)
+  step_then (a_value a) h = h
+  step_then (a_refusal k at e) h = a_refusal k at e
 
-pub placed_low : {A : Type 0} (at : ℕ) {o : Outcome A} → Numbered o → Among Low (placed at o)
-placed_low at (value a) = record { number = omega arith }
-placed_low at (by_number k low high) = record { number = high }
+  pub placed_among : {A : Type 0} (at : ℕ) {o : Outcome A} → Numbered g o → Among g (placed at o)
+  placed_among at (value a) = a_value a
+  placed_among at (by_number k e) = a_refusal k at e
 
-pub fine_low : {A : Type 0} (a : A) → Among Low (fine a)
-fine_low a = record { number = omega arith }
+  pub among_wider : {A : Type 0} {p : Placed A} (h : List ℕ) → covers g h ≡ true → Among g p → Among h p
+  among_wider h c (a_value a) = a_value a
+  among_wider h c (a_refusal k at e) = a_refusal k at (has_covers g h k c e)
 
-pub ruleset answers = (first_then, step_then, placed_low, fine_low, steps)
+  -- a number that is neither 0 nor in the list is not given
+  pub not_among : {A : Type 0} {p : Placed A} (n : ℕ) → has (0 ∷ g) n ≡ false → Among g p → number_of p ≡ n → ⊥
+  not_among n f (a_value a) z = not_in (0 ∷ g) 0 n f refl z
+  not_among n f (a_refusal k at e) z = not_in (0 ∷ g) k n f (or_0 g k e) z
+
+pub ruleset answers = (a_value, first_then, step_then, placed_among, steps)
 
 -- ---- the calendar
 
-test_offset_numbered : (o : ℤ) → Numbered (test_offset o)
+test_offset_numbered : (o : ℤ) → Numbered (17 ∷ []) (test_offset o)
 unfolding test_offset
 test_offset_numbered o = search steps
 
-pub test_numbered : (r : ExtendedDateTime) → Numbered (test r)
-unfolding test test_date test_time
-test_numbered r = search (steps, test_offset_numbered)
+pub test_numbered : (r : ExtendedDateTime) → Numbered record_numbers (test r)
+unfolding test test_date test_time test_offset
+test_numbered r = search steps
 
-test_year_numbered : (y : ℕ) → Numbered (test_year y)
+test_year_numbered : (y : ℕ) → Numbered (9 ∷ (10 ∷ [])) (test_year y)
 unfolding test_year
 test_year_numbered y = search steps
 
-pub accept_numbered : (r : ExtendedDateTime) → Numbered (accept r)
+pub accept_numbered : (r : ExtendedDateTime) → Numbered record_numbers (accept r)
 unfolding accept
 accept_numbered r = search (steps, test_numbered)
 
-from_unix_seconds_numbered : (u : ℤ) (n : ℕ) (o : ℤ) → Numbered (from_unix_seconds u n o)
-unfolding from_unix_seconds from_clock
-from_unix_seconds_numbered u n o = search (steps, test_offset_numbered, test_year_numbered)
+pub from_unix_seconds_numbered : (u : ℤ) (n : ℕ) (o : ℤ) → Numbered moment_numbers (from_unix_seconds u n o)
+unfolding from_unix_seconds from_clock test_offset test_year
+from_unix_seconds_numbered u n o = search steps
+
+-- among the numbers of sums
+pub test_sum : (r : ExtendedDateTime) → Numbered sum_numbers (test r)
+test_sum r = wider sum_numbers refl (test_numbered r)
+
+pub accept_sum : (r : ExtendedDateTime) → Numbered sum_numbers (accept r)
+accept_sum r = wider sum_numbers refl (accept_numbered r)
+
+test_year_sum : (y : ℕ) → Numbered sum_numbers (test_year y)
+test_year_sum y = wider sum_numbers refl (test_year_numbered y)
+
+from_unix_seconds_sum : (u : ℤ) (n : ℕ) (o : ℤ) → Numbered sum_numbers (from_unix_seconds u n o)
+from_unix_seconds_sum u n o = wider sum_numbers refl (from_unix_seconds_numbered u n o)
 
 module _ (r : ExtendedDateTime) where
-  pub with_date_numbered : (y m d : ℕ) → Numbered (with_date r (date y m d))
+  pub with_date_numbered : (y m d : ℕ) → Numbered sum_numbers (with_date r (date y m d))
   unfolding with_date
-  with_date_numbered y m d = search (steps, test_numbered, accept_numbered)
+  with_date_numbered y m d = search (steps, test_sum, accept_sum)
 
-  pub with_time_numbered : (t : TimeParts) → Numbered (with_time r t)
+  pub with_time_numbered : (t : TimeParts) → Numbered sum_numbers (with_time r t)
   unfolding with_time
-  with_time_numbered t = search (steps, test_numbered, accept_numbered)
+  with_time_numbered t = search (steps, test_sum, accept_sum)
 
-  pub with_offset_numbered : (o : ℤ) → Numbered (with_offset r o)
+  pub with_offset_numbered : (o : ℤ) → Numbered sum_numbers (with_offset r o)
   unfolding with_offset
-  with_offset_numbered o = search (steps, test_numbered, accept_numbered)
+  with_offset_numbered o = search (steps, test_sum, accept_sum)
 
-  pub add_seconds_numbered : (d : ℤ) (k : ℕ) → Numbered (add_seconds r d k)
+  pub add_seconds_numbered : (d : ℤ) (k : ℕ) → Numbered sum_numbers (add_seconds r d k)
   unfolding add_seconds carried
-  add_seconds_numbered d k = search (steps, test_numbered, from_unix_seconds_numbered)
+  add_seconds_numbered d k = search (steps, test_sum, from_unix_seconds_sum)
 
-  pub add_units_numbered : (worth : ℕ) (n : ℤ) → Numbered (add_units worth r n)
+  pub add_units_numbered : (worth : ℕ) (n : ℤ) → Numbered sum_numbers (add_units worth r n)
   unfolding add_units
-  add_units_numbered worth n = search (steps, test_numbered, add_seconds_numbered)
+  add_units_numbered worth n = search (steps, test_sum, add_seconds_numbered)
 
 module _ (r : ExtendedDateTime) where
-  clamp_numbered : (y m : ℕ) → Numbered (clamp r y m)
+  clamp_numbered : (y m : ℕ) → Numbered sum_numbers (clamp r y m)
   unfolding clamp add_days
-  clamp_numbered y m = search (steps, test_year_numbered, with_date_numbered, add_units_numbered)
+  clamp_numbered y m = search (steps, test_year_sum, with_date_numbered, add_units_numbered)
 
-  pub add_relative_numbered : (x : Relative) → Numbered (add_relative x r)
-  unfolding add_relative add_years add_months add_days add_hours add_minutes
-  add_relative_numbered (relative.Years n) = search (steps, test_numbered, clamp_numbered)
-  add_relative_numbered (relative.Months n) = search (steps, test_numbered, clamp_numbered)
+  pub add_years_numbered : (n : ℤ) → Numbered sum_numbers (add_years r n)
+  unfolding add_years
+  add_years_numbered n = search (steps, test_sum, clamp_numbered)
+
+  pub add_months_numbered : (n : ℤ) → Numbered sum_numbers (add_months r n)
+  unfolding add_months
+  add_months_numbered n = search (steps, test_sum, clamp_numbered)
+
+  pub add_relative_numbered : (x : Relative) → Numbered sum_numbers (add_relative x r)
+  unfolding add_relative add_days add_hours add_minutes
+  add_relative_numbered (relative.Years n) = add_years_numbered n
+  add_relative_numbered (relative.Months n) = add_months_numbered n
   add_relative_numbered (relative.Days n) = add_units_numbered r 86400 n
   add_relative_numbered (relative.Hours n) = add_units_numbered r 3600 n
   add_relative_numbered (relative.Minutes n) = add_units_numbered r 60 n

@@ -24,9 +24,10 @@ use Rattle.writer.proofs.Texts.{text_long}
 use Rattle.writer.proofs.Theorems.{one_owner}
 use Rattle.text_general.specs.Reading.{read_text}
 use Rattle.theorems_round_trip.proofs.Texts.{shift, read_alone, read_moved}
-use Rattle.theorems_round_trip.proofs.Refusals.{bounds, Among, Low, fine_low, placed_low, add_seconds_numbered}
+use Rattle.theorems_round_trip.proofs.Refusals.{positive, not_among, given, Among, a_value, placed_among, add_seconds_numbered}
 use Rattle.theorems_round_trip.proofs.TextRefusals.{any_base}
 use Rattle.host_answers.specs.Hosts.{placed_answer}
+use Rattle.host_calls.specs.Given.{sum_numbers}
 use Rattle.host_calls.specs.Calls.{answer, ReadText, Wrote}
 use Rattle.theorems_round_trip.specs.Promises.{Writable, seconds, text_in, Answered, there, nowhere}
 use Rattle.host_answers.specs.declared.Answer.{Answer}
@@ -95,24 +96,24 @@ module _ (r : ExtendedDateTime) (k : Writable r) (out : List ℕ) (room : 41 ≤
 
         by : (a : Answer) → a ≡ placed_answer (placed 0 (add_seconds r d 0)) → (o : Outcome ExtendedDateTime) → add_seconds r d 0 ≡ o → Answered r (moment r +ℤ d) a
         by a e (accepted s) q = there (rw (e, q)) (rw (e, q) (recorded r (moment r +ℤ d) s t ((seconds_exact r d 0 s t small).0 q)))
-        by a e (refused j) q = nowhere (rw (e, q) (bounds (rw q at (add_seconds_numbered r d 0))).0) (rw (e, q)) (λ s ts m o. seconds_refused r d 0 j t small q s ts (m ∙ sym (no_carry r (moment r +ℤ d) t)) o)
+        by a e (refused j) q = nowhere (rw (e, q) (positive sum_numbers j refl (given (rw q at (add_seconds_numbered r d 0))))) (rw (e, q)) (λ s ts m o. seconds_refused r d 0 j t small q s ts (m ∙ sym (no_carry r (moment r +ℤ d) t)) o)
 
   -- ---- no digit of it is lost
 
   module _ (base : ExtendedDateTime) where
-    undropped : (text : List ℕ) → (test base ≡ accepted tt → Among Low (read_text text base)) → (answer (ReadText text base)).number ≡ 22 → ⊥
+    undropped : (text : List ℕ) → (test base ≡ accepted tt → Among sum_numbers (read_text text base)) → (answer (ReadText text base)).number ≡ 22 → ⊥
     unfolding placed_answer
-    undropped text h e = let low : (answer (ReadText text base)).number ≤ 20 = (any_base text base h).number in omega arith
+    undropped text h = not_among 22 refl (any_base sum_numbers refl text base h)
 
     -- The text, read under any base, be it refused or not, is never answered with 22.
     pub written_undropped : (answer (ReadText (text_in w left) base)).number ≡ 22 → ⊥
-    written_undropped = undropped (text_in w left) (λ b. rw (text_in_lem, read_alone base r b k.accepted_record k.whole) (fine_low r))
+    written_undropped = undropped (text_in w left) (λ b. rw (text_in_lem, read_alone base r b k.accepted_record k.whole) (a_value r))
 
     -- Nor is the text with N seconds after it, N from 0 to 9223372036854775807.
     pub moved_undropped : (minus : Bool) (n : ℕ) → n ≤ 9223372036854775807 → (answer (ReadText (text_in w left ++ seconds minus n) base)).number ≡ 22 → ⊥
     moved_undropped minus n h =
         undropped (text_in w left ++ seconds minus n)
-        (λ b. rw (text_in_lem, ← seconds_are minus n, read_moved base r b k.accepted_record k.whole minus n (omega arith)) (placed_low 0 (add_seconds_numbered r (signed minus n) 0)))
+        (λ b. rw (text_in_lem, ← seconds_are minus n, read_moved base r b k.accepted_record k.whole minus n (omega arith)) (placed_among 0 (add_seconds_numbered r (signed minus n) 0)))
 
 -- No two such records are written as one text.
 pub one_text : (r s : ExtendedDateTime) → Writable r → Writable s → (out out' : List ℕ) → 41 ≤ length out → 41 ≤ length out' → (w w' : Written) (left left' : List ℕ) →

@@ -1,0 +1,58 @@
+-- Which numbers a call can give, and how far its place can be: docs/SCOPE.md, 'Answers by number'. That no call gives another number is proved
+-- in theorems_hosts, proofs/Theorems.antt.
+use Rattle.answers.specs.Numbers as refusal
+use Rattle.answers.specs.Limits.{most_items}
+use Rattle.std.specs.Prelude.{ℕ, Bool, false, ◌||◌, List, [], ◌∷◌, ◌++◌, eqb, length}
+use Rattle.host_calls.specs.Calls.{Call, New, FromUnixSeconds, AddDays, AddHours, AddMinutes, AddSeconds, AddYears, AddMonths, ReadText, ReadPacket}
+
+-- whether a number is in a list
+abbrev pub has : List ℕ → ℕ → Bool
+has [] k = false
+has (n ∷ ns) k = eqb k n || has ns k
+
+-- what `new` gives, for a record, a base or eight numbers
+abbrev pub record_numbers : List ℕ
+record_numbers = refusal.over ∷ refusal.month ∷ refusal.day ∷ refusal.hour ∷ refusal.minute ∷ refusal.second ∷ refusal.nanosecond ∷ refusal.offset ∷ []
+
+-- a moment, a nanosecond and an offset
+abbrev pub moment_numbers : List ℕ
+moment_numbers = refusal.over ∷ refusal.under ∷ refusal.nanosecond ∷ refusal.offset ∷ refusal.sum ∷ []
+
+-- a record and what is added to it: all from 9 to 18
+abbrev pub sum_numbers : List ℕ
+sum_numbers = refusal.under ∷ refusal.sum ∷ record_numbers
+
+-- a text has no zone, no weekday and no pure number, so that it can't get 7 or 8
+abbrev pub text_numbers : List ℕ
+text_numbers = refusal.oversize ∷ refusal.foreign ∷ refusal.unread ∷ refusal.stopped ∷ refusal.fraction ∷ refusal.twice ∷ sum_numbers
+
+abbrev pub packet_numbers : List ℕ
+packet_numbers = refusal.oversize ∷ refusal.packet ∷ refusal.twice ∷ refusal.rival ∷ refusal.pure ∷ sum_numbers
+
+abbrev pub written_numbers : List ℕ
+written_numbers = refusal.short ∷ refusal.seam ∷ record_numbers
+
+abbrev pub numbers : Call → List ℕ
+numbers (New year month day hour minute second nanosecond offset) = record_numbers
+numbers (FromUnixSeconds seconds nanosecond offset) = moment_numbers
+numbers (AddDays r n) = sum_numbers
+numbers (AddHours r n) = sum_numbers
+numbers (AddMinutes r n) = sum_numbers
+numbers (AddSeconds r n k) = sum_numbers
+numbers (AddYears r n) = sum_numbers
+numbers (AddMonths r n) = sum_numbers
+numbers (ReadText text base) = text_numbers
+numbers (ReadPacket packet base) = packet_numbers
+
+-- No place is beyond this one: a text's end, the number of items that a packet may have, and 0 for a call without a place.
+abbrev pub last_place : Call → ℕ
+last_place (New year month day hour minute second nanosecond offset) = 0
+last_place (FromUnixSeconds seconds nanosecond offset) = 0
+last_place (AddDays r n) = 0
+last_place (AddHours r n) = 0
+last_place (AddMinutes r n) = 0
+last_place (AddSeconds r n k) = 0
+last_place (AddYears r n) = 0
+last_place (AddMonths r n) = 0
+last_place (ReadText text base) = length text
+last_place (ReadPacket packet base) = most_items

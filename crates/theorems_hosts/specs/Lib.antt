@@ -1,0 +1,2 @@
+-- The definitions of the crate `theorems_hosts`.
+pub mod Promises

@@ -1,0 +1,3 @@
+// Theorems alone: what every call of the library promises.
+
+#![tactic(auto)]
