@@ -24,24 +24,7 @@ fn number_ordinal(s: &[u8], at: usize) -> Option<(i32, usize)>
     numbers::signed_number(s, next, negative)
 }
 
-const ORDINALS: [(&str, i32); 14] = [
-    ("last", -1),
-    ("this", 0),
-    ("next", 1),
-    ("first", 1),
-    ("third", 3),
-    ("fourth", 4),
-    ("fifth", 5),
-    ("sixth", 6),
-    ("seventh", 7),
-    ("eighth", 8),
-    ("ninth", 9),
-    ("tenth", 10),
-    ("eleventh", 11),
-    ("twelfth", 12),
-];
-
-// A word of the table, after space.
+// An ordinal word, after space.
 #[tactic(auto, using(primitive::proofs::Spaced::spaced_chain), unfolding(primitive::specs::Ordinal::text_ordinal))]
 fn text_ordinal(s: &[u8], at: usize) -> Option<(i32, usize)>
     ensures { answer_of result ≡ text_ordinal (lowered s.now) at }
@@ -52,7 +35,7 @@ fn text_ordinal(s: &[u8], at: usize) -> Option<(i32, usize)>
     Some((n, end))
 }
 
-// The ordinal that a word names. Most words begin with a letter that begins none.
+// The ordinal that a word names. Its first letter leaves four names at most.
 #[tactic(auto, using(primitive::proofs::Ordinals::ordinal_letters))]
 pub fn ordinal_named(word: &[u8]) -> Option<i32>
     ensures { (text : List ℕ) (at : ℕ) → found_at at result ≡ named ordinals (lowered word.now) text at }
@@ -61,18 +44,24 @@ pub fn ordinal_named(word: &[u8]) -> Option<i32>
         return None;
     }
     match primitive::to_lower(word[0]) {
-        b'e' => in_table(word),
-        b'f' => in_table(word),
-        b'l' => in_table(word),
-        b'n' => in_table(word),
-        b's' => in_table(word),
-        b't' => in_table(word),
+        b'e' => crate::find_value(word, &E_ORDINALS),
+        b'f' => crate::find_value(word, &F_ORDINALS),
+        b'l' => crate::find_value(word, &L_ORDINALS),
+        b'n' => crate::find_value(word, &N_ORDINALS),
+        b's' => crate::find_value(word, &S_ORDINALS),
+        b't' => crate::find_value(word, &T_ORDINALS),
         _ => None,
     }
 }
 
-fn in_table(word: &[u8]) -> Option<i32>
-    ensures { (text : List ℕ) (at : ℕ) → found_at at result ≡ named ordinals (lowered word.now) text at }
-{
-    crate::find_value(word, &ORDINALS)
-}
+const E_ORDINALS: [(&str, i32); 2] = [("eighth", 8), ("eleventh", 11)];
+
+const F_ORDINALS: [(&str, i32); 3] = [("first", 1), ("fourth", 4), ("fifth", 5)];
+
+const L_ORDINALS: [(&str, i32); 1] = [("last", -1)];
+
+const N_ORDINALS: [(&str, i32); 2] = [("next", 1), ("ninth", 9)];
+
+const S_ORDINALS: [(&str, i32); 2] = [("sixth", 6), ("seventh", 7)];
+
+const T_ORDINALS: [(&str, i32); 4] = [("this", 0), ("third", 3), ("tenth", 10), ("twelfth", 12)];
