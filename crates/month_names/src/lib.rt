@@ -2,20 +2,23 @@
 
 #![tactic(auto)]
 
-ghost use Rattle.std.specs.Prelude.{◌≡◌, ℕ, List};
-ghost use Rattle.primitive.specs.Text.{lowered, part_answer};
+ghost use Rattle.std.specs.Prelude.{◌≡◌, ℕ, ◌+◌, ◌<◌, List, length};
+ghost use Rattle.primitive.specs.Text.{lowered, byte, part_answer};
 ghost use Rattle.primitive.specs.Answer.{answer_of, found_at, and_then};
 ghost use Rattle.primitive.specs.Primitive.{spaced, named};
 ghost use Rattle.dates.specs.Date.{word_dot, months, literal_month};
 
+// The name of a month reads the space before it, and no other follows that.
+#[tactic(auto, using(crate::proofs::Letters::letters))]
 pub fn spaced_month(s: &[u8], at: usize) -> Option<(u8, usize)>
     ensures { answer_of result ≡ spaced literal_month (lowered s.now) at }
 {
-    literal_month(s, spaces::space(s, at))
+    literal_month(s, at)
 }
 
-// The name of a month, after space: `sept` is one, `sept.` is none. A word with another first letter is not read.
-#[tactic(auto, using(dates::proofs::Months::month_letters))]
+// The name of a month, after space: `sept` is one, `sept.` is none. A word with another first letter is not read. The words of relative items
+// with one of these first letters, as `next` and `first`, nearly all have another second letter, and are not read either.
+#[tactic(auto, using(crate::proofs::Letters::letters))]
 fn literal_month(s: &[u8], at: usize) -> Option<(u8, usize)>
     ensures { answer_of result ≡ literal_month (lowered s.now) at }
 {
@@ -25,15 +28,24 @@ fn literal_month(s: &[u8], at: usize) -> Option<(u8, usize)>
     }
     match primitive::to_lower(s[start]) {
         b'j' => month_at(s, start),
-        b'm' => month_at(s, start),
+        b'm' => month_with(s, start, b'a'),
         b'a' => month_at(s, start),
-        b'f' => month_at(s, start),
+        b'f' => month_with(s, start, b'e'),
         b's' => month_at(s, start),
         b'o' => month_at(s, start),
-        b'n' => month_at(s, start),
-        b'd' => month_at(s, start),
+        b'n' => month_with(s, start, b'o'),
+        b'd' => month_with(s, start, b'e'),
         _ => None,
     }
+}
+
+// The month at a place where the name can only have one second letter.
+fn month_with(s: &[u8], at: usize, second: u8) -> Option<(u8, usize)>
+    requires { at < length s.now }
+    ensures { answer_of result ≡ and_then (byte second (lowered s.now) (at + 1)) (λ _ _. and_then (word_dot (lowered s.now) at) (λ w n. named months w (lowered s.now) n)) }
+{
+    primitive::byte(s, at + 1, second)?;
+    month_at(s, at)
 }
 
 fn month_at(s: &[u8], at: usize) -> Option<(u8, usize)>

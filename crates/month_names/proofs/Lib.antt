@@ -1,0 +1,2 @@
+-- The laws of the crate `month_names`.
+pub mod Letters
