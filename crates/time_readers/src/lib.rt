@@ -105,14 +105,7 @@ fn half_day(
     if hour == 0 {
         return Err(Miss::Stop);
     }
-    let time = Time {
-        hour: hour_of(hour, pm),
-        minute,
-        second: v.sec,
-        nanosecond: v.nsec,
-        offset: None,
-    };
-    Ok((time, next))
+    Ok((time_of(hour_of(hour, pm), minute, v, None), next))
 }
 
 // A correction or none.
@@ -127,14 +120,7 @@ fn whole_day(
     ensures { stop_answer result ≡ whole_day hour minute v (lowered s.now) at }
 {
     let (offset, next) = optional_correction(s, at)?;
-    let time = Time {
-        hour,
-        minute,
-        second: v.sec,
-        nanosecond: v.nsec,
-        offset,
-    };
-    Ok((time, next))
+    Ok((time_of(hour, minute, v, offset), next))
 }
 
 // A time in 24 hours: an hour, and minutes after a colon or else an offset.
@@ -154,13 +140,7 @@ fn hour_offset(s: &[u8], at: usize, hour: u8) -> Result<(Time, usize, bool), Mis
     ensures { lossy_stop_answer result ≡ offset_behind hour (lowered s.now) at }
 {
     let (offset, next) = offsets::timezone_offset(s, at)?;
-    let time = Time {
-        hour,
-        minute: 0,
-        second: 0,
-        nanosecond: 0,
-        offset: Some(offset),
-    };
+    let time = time_of(hour, 0, SecAndNsec { sec: 0, nsec: 0 }, Some(offset));
     Ok((time, next, false))
 }
 
@@ -184,6 +164,19 @@ fn optional_correction(s: &[u8], at: usize) -> Result<(Option<Offset>, usize), M
         Ok((offset, next)) => Ok((Some(offset), next)),
         Err(Miss::NoMatch) => Ok((None, at)),
         Err(Miss::Stop) => Err(Miss::Stop),
+    }
+}
+
+// The time of an hour, a minute and seconds, with an offset or without one.
+fn time_of(hour: u8, minute: u8, v: SecAndNsec<u8>, offset: Option<Offset>) -> Time
+    ensures { result ≡ record { hour = hour; minute = minute; second = v.sec; nanosecond = v.nsec; offset = offset } }
+{
+    Time {
+        hour,
+        minute,
+        second: v.sec,
+        nanosecond: v.nsec,
+        offset,
     }
 }
 
