@@ -50,7 +50,9 @@ impl<const N: usize> Gathered<N> {
         Gathered { builder, relatives }
     }
 
-    // One item more, and its index. A relative item is kept after the others, if there is room for it.
+    // One item more, and its index. A relative item is kept after the others, if there is room for it. As a call, it takes some 20 instructions more
+    // an item.
+    #[inline(always)]
     #[tactic(auto, using(rules::proofs::Order::no_rule))]
     pub fn add_item(&mut self, digits: &[u8], item: Item, index: usize)
         ensures builder { placed_of self.new.builder ≡ add_item (lowered digits.now) index item (placed_of self.old.builder) }
@@ -65,8 +67,41 @@ impl<const N: usize> Gathered<N> {
             }
             return;
         }
-        self.builder = under_rules(self.builder, digits, item, index);
+        add_ruled(&mut self.builder, digits, item, index);
     }
+}
+
+// One item more that has a rule. The rule of a time alone changes the builder in its place; the rules of all kinds copy it. Inlined, they would have
+// the texts that are read at once save registers on their account.
+#[inline(never)]
+fn add_ruled(
+    standing: &mut Result<DateTimeBuilder, PlacedRefusal>,
+    digits: &[u8],
+    item: Item,
+    index: usize,
+)
+    ensures { placed_of standing.new ≡ add_item (lowered digits.now) index item (placed_of standing.old) }
+{
+    if let Item::Time(time) = item {
+        *standing = timed(*standing, time, index);
+        return;
+    }
+    *standing = under_rules(*standing, digits, item, index);
+}
+
+// A time more, under its rule.
+#[tactic(auto, unfolding(rules::specs::Rules::add_item, rules::specs::Rules::set_item))]
+fn timed(
+    standing: Result<DateTimeBuilder, PlacedRefusal>,
+    time: Time,
+    index: usize,
+) -> Result<DateTimeBuilder, PlacedRefusal>
+    ensures { (digits : List ℕ) → placed_of result ≡ add_item digits index (Item.Time time) (placed_of standing) }
+{
+    let before = standing?;
+    before
+        .set_time(time)
+        .map_err(|refusal| refusal.at(rule_place(refusal, index)))
 }
 
 // The rules of one item more. The first broken one stays.
