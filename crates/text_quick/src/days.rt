@@ -54,10 +54,17 @@ fn day_month_date(s: &[u8], at: usize, day: u8) -> Option<(DateParts, usize)>
     year(s, end + 1, month, day)
 }
 
+// `may 3, 2024` has 11 bytes.
+const SHORTEST_NAMED: usize = 11;
+
 // `march 13, 2024`
 pub(crate) fn name_date(s: &[u8]) -> Option<(DateParts, usize)>
     ensures { OtherDate (lowered s.now) result }
 {
+    // a relative item that begins with a word, as `next year`, is nearly always shorter
+    if s.len() < SHORTEST_NAMED {
+        return None;
+    }
     let (month, end) = month_name(s, 0)?;
     let (day, at) = rows::short(s, end + 1)?;
     let next = at + 1;
