@@ -22,7 +22,8 @@ use rules::DateTimeBuilder;
 const FEW: usize = 4;
 
 // The record of a text's items, 64 at most. Each item is added as it is read, and none is kept but the relative ones; a broken rule is
-// answered after the last item.
+// answered after the last item. As a call, it gives its record back in memory, where each copy waits for the one before: 10 ns more a text.
+#[inline(always)]
 pub fn build_text(text: &[u8], base: ExtendedDateTime) -> Result<ExtendedDateTime, PlacedRefusal>
     ensures { placed_of result ≡ build_text (lowered text.now) base }
 {
