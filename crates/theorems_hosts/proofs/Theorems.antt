@@ -2,12 +2,13 @@
 -- a place within its bounds and the blank record. Read this file with host_calls/specs/Calls and Given. Assumes nothing.
 use native.Mathlib.Omega.{arith}
 use Prim.Native.Nat.{ℕ, ◌+◌, ◌-◌, ◌<◌, ◌≤◌}
-use mathlib.Core.Path.{◌≡◌, refl}
+use mathlib.Core.Path.{◌≡◌, refl, ap}
 use mathlib.Core.List.{List, [], ◌∷◌}
 use lib.ListN.{length}
 use lib.Dec.{leb}
 use Rattle.builder.specs.Building.{build}
-use mathlib.Core.Bool.{true}
+use Rattle.items.specs.declared.Item.{Item}
+use mathlib.Core.Bool.{true, false}
 use Rattle.answers.specs.Outcome.{Outcome, accepted, refused, check}
 use Rattle.answers.specs.Outcome as outcome
 use Rattle.answers.proofs.Outcomes.{first_passed, same}
@@ -31,13 +32,13 @@ use Rattle.text_general.specs.Reading.{ascii_end, items_of, build_parsed, read_p
 use Rattle.theorems_packets.proofs.Refusals.{packet_among}
 use Rattle.theorems_round_trip.proofs.TextRefusals.{text_among}
 use Rattle.theorems_round_trip.proofs.Refusals.{Numbered, value, by_number, next, wider, steps, test_numbered, Among, a_value, a_refusal, accept_numbered, from_unix_seconds_numbered, add_seconds_numbered, add_units_numbered, add_years_numbered, add_months_numbered}
-use Rattle.theorems_round_trip.proofs.Accepted.{Good, accept_good, unix_good, days_good, hours_good, minutes_good, seconds_good, years_good, months_good, accepted_built}
+use Rattle.theorems_round_trip.proofs.Accepted.{Good, Any, whole_built, accept_good, unix_good, days_good, hours_good, minutes_good, seconds_good, years_good, months_good, accepted_built}
 use Rattle.theorems_hosts.specs.Promises.{Answers, a_record, no_record, AnswersMoment, a_moment, no_moment, AnswersNumber, a_number, no_number, Writes, a_text, no_text}
 
 -- an outcome whose refusals are known, and whose records are accepted
-of_outcome : (g : List ℕ) (last : ℕ) (o : Outcome ExtendedDateTime) → Numbered g o → Good o → Answers g last (record_answer o)
+of_outcome : (g : List ℕ) (last : ℕ) (o : Outcome ExtendedDateTime) → Numbered g o → Good Any o → Answers g last (record_answer o)
 unfolding record_answer
-of_outcome g last o (value r) a = a_record refl refl (a r refl)
+of_outcome g last o (value r) a = a_record refl refl (a r refl).0
 of_outcome g last o (by_number k e) a = no_record e (omega arith) refl
 
 of_placed : (g : List ℕ) (last : ℕ) (p : Placed ExtendedDateTime) → Among g p → place_of p ≤ last → ((r : ExtendedDateTime) → p ≡ fine r → test r ≡ accepted tt) → Answers g last (placed_answer p)
@@ -45,52 +46,79 @@ unfolding placed_answer
 of_placed g last p (a_value r) l a = a_record refl refl (a r refl)
 of_placed g last p (a_refusal k at e) l a = no_record e l refl
 
--- ---- what is read is accepted
+-- ---- what is read is accepted, and has an offset of whole minutes if the base has one
 
--- an answer with a place whose record, if it has one, is accepted
-abbrev Fine : Placed ExtendedDateTime → Type 0
-Fine p = (r : ExtendedDateTime) → p ≡ fine r → test r ≡ accepted tt
+-- an answer whose record, if it has one, has the property P
+abbrev Fine : (ExtendedDateTime → Type 0) → Placed ExtendedDateTime → Type 0
+Fine P p = (r : ExtendedDateTime) → p ≡ fine r → P r
+
+abbrev Accepted : ExtendedDateTime → Type 0
+Accepted r = test r ≡ accepted tt
+
+abbrev Whole : ExtendedDateTime → Type 0
+Whole r = whole_minutes r.offset_seconds ≡ true
 
 no_value : {X : Type 0} {n at : ℕ} {r : ExtendedDateTime} → refusal n at ≡ fine r → X
 no_value e = let z : ◌≡◌ {A = ℕ} 0 1 = cc in absurd (omega arith)
 
-first_fine : {A : Type 0} (p : Placed A) (f : A → Placed ExtendedDateTime) → ((a : A) → Fine (f a)) → Fine (p >>= f)
-first_fine (fine a) f g = g a
-first_fine (refusal n at) f g = λ r e. no_value e
+module _ (P : ExtendedDateTime → Type 0) where
+  first_fine : {A : Type 0} (p : Placed A) (f : A → Placed ExtendedDateTime) → ((a : A) → Fine P (f a)) → Fine P (p >>= f)
+  first_fine (fine a) f g = g a
+  first_fine (refusal n at) f g = λ r e. no_value e
 
-step_fine : (p : Placed (Unit {0})) (q : Placed ExtendedDateTime) → Fine q → Fine (p >> q)
-step_fine (fine a) q g = g
-step_fine (refusal n at) q g = λ r e. no_value e
+  step_fine : (p : Placed (Unit {0})) (q : Placed ExtendedDateTime) → Fine P q → Fine P (p >> q)
+  step_fine (fine a) q g = g
+  step_fine (refusal n at) q g = λ r e. no_value e
 
-text_fine : (text : List ℕ) (base : ExtendedDateTime) → Fine (read_text text base)
-unfolding read_text read_parsed build_parsed
-text_fine text base =
-    let l = lowered text in
-    let items = first_fine (items_of (parse_items l)) (λ xs. build [] xs base) (λ xs. accepted_built [] xs base) in
-    step_fine (placed 0 (test base)) _
-    (step_fine (placed 0 (check (leb (length l) 4096) 1)) _ (step_fine (placed (ascii_end l) (check (leb (length l) (ascii_end l)) 2)) _ items))
+  module _ (base : ExtendedDateTime) (built : (digits : List ℕ) (xs : List Item) → Fine P (build digits xs base)) where
+    text_fine : (text : List ℕ) → Fine P (read_text text base)
+    unfolding read_text read_parsed build_parsed
+    text_fine text =
+        let l = lowered text in
+        let items = first_fine (items_of (parse_items l)) (λ xs. build [] xs base) (built []) in
+        step_fine (placed 0 (test base)) _
+        (step_fine (placed 0 (check (leb (length l) 4096) 1)) _ (step_fine (placed (ascii_end l) (check (leb (length l) (ascii_end l)) 2)) _ items))
 
-packet_fine : (bytes : List ℕ) (base : ExtendedDateTime) → Fine (read_packet bytes base)
-unfolding read_packet build_items
-packet_fine bytes base =
-    let items = first_fine (items_from bytes (digits bytes) (count bytes) 0 0) (λ xs. build (digits bytes) xs base) (λ xs. accepted_built (digits bytes) xs base) in
-    step_fine (placed 0 (test base)) _ (step_fine (placed 0 (header bytes)) _ items)
+    packet_fine : (bytes : List ℕ) → Fine P (read_packet bytes base)
+    unfolding read_packet build_items
+    packet_fine bytes =
+        let items = first_fine (items_from bytes (digits bytes) (count bytes) 0 0) (λ xs. build (digits bytes) xs base) (built (digits bytes)) in
+        step_fine (placed 0 (test base)) _ (step_fine (placed 0 (header bytes)) _ items)
+
+accepted_always : (base : ExtendedDateTime) (digits : List ℕ) (xs : List Item) → Fine Accepted (build digits xs base)
+accepted_always base digits xs r e = accepted_built digits xs base r e
+
+whole_always : (base : ExtendedDateTime) → Whole base → (digits : List ℕ) (xs : List Item) → Fine Whole (build digits xs base)
+whole_always base k digits xs r e = whole_built digits xs base r k e
+
+-- Under a base with an offset of whole minutes, so is every offset that is read: what a text or a packet gives can be written.
+pub text_whole : (text : List ℕ) (base r : ExtendedDateTime) → whole_minutes base.offset_seconds ≡ true → read_text text base ≡ fine r → whole_minutes r.offset_seconds ≡ true
+text_whole text base r k e = text_fine Whole base (whole_always base k) text r e
+
+pub packet_whole : (bytes : List ℕ) (base r : ExtendedDateTime) → whole_minutes base.offset_seconds ≡ true → read_packet bytes base ≡ fine r → whole_minutes r.offset_seconds ≡ true
+packet_whole bytes base r k e = packet_fine Whole base (whole_always base k) bytes r e
+
+pub text_accepted : (text : List ℕ) (base r : ExtendedDateTime) → read_text text base ≡ fine r → test r ≡ accepted tt
+text_accepted text base = text_fine Accepted base (accepted_always base) text
+
+pub packet_accepted : (bytes : List ℕ) (base r : ExtendedDateTime) → read_packet bytes base ≡ fine r → test r ≡ accepted tt
+packet_accepted bytes base = packet_fine Accepted base (accepted_always base) bytes
 
 -- ---- the calls
 
 -- Whatever is asked: an accepted record, or one refusal of this call, with a place that is within its bounds, and the blank record.
 pub one_answer : (c : Call) → Answers (numbers c) (last_place c) (answer c)
 unfolding add_days add_hours add_minutes
-one_answer (New y m d h n s k o) = of_outcome record_numbers 0 (accept (make (date y m d) (time h n s k) o)) (accept_numbered (make (date y m d) (time h n s k) o)) (accept_good (make (date y m d) (time h n s k) o))
-one_answer (FromUnixSeconds u n o) = of_outcome moment_numbers 0 (from_unix_seconds u n o) (from_unix_seconds_numbered u n o) (unix_good u n o)
-one_answer (AddDays r n) = of_outcome sum_numbers 0 (add_days r n) (add_units_numbered r 86400 n) (days_good r n)
-one_answer (AddHours r n) = of_outcome sum_numbers 0 (add_hours r n) (add_units_numbered r 3600 n) (hours_good r n)
-one_answer (AddMinutes r n) = of_outcome sum_numbers 0 (add_minutes r n) (add_units_numbered r 60 n) (minutes_good r n)
-one_answer (AddSeconds r n k) = of_outcome sum_numbers 0 (add_seconds r n k) (add_seconds_numbered r n k) (seconds_good r n k)
-one_answer (AddYears r n) = of_outcome sum_numbers 0 (add_years r n) (add_years_numbered r n) (years_good r n)
-one_answer (AddMonths r n) = of_outcome sum_numbers 0 (add_months r n) (add_months_numbered r n) (months_good r n)
-one_answer (ReadText text base) = of_placed text_numbers (length text) (read_text text base) (text_among text base) ? (text_fine text base)
-one_answer (ReadPacket packet base) = of_placed packet_numbers 64 (read_packet packet base) (packet_among packet base) (place_within packet base) (packet_fine packet base)
+one_answer (New y m d h n s k o) = of_outcome record_numbers 0 (accept (make (date y m d) (time h n s k) o)) (accept_numbered (make (date y m d) (time h n s k) o)) (accept_good Any (make (date y m d) (time h n s k) o) tt)
+one_answer (FromUnixSeconds u n o) = of_outcome moment_numbers 0 (from_unix_seconds u n o) (from_unix_seconds_numbered u n o) (unix_good Any u n o tt)
+one_answer (AddDays r n) = of_outcome sum_numbers 0 (add_days r n) (add_units_numbered r 86400 n) (days_good Any r tt n)
+one_answer (AddHours r n) = of_outcome sum_numbers 0 (add_hours r n) (add_units_numbered r 3600 n) (hours_good Any r tt n)
+one_answer (AddMinutes r n) = of_outcome sum_numbers 0 (add_minutes r n) (add_units_numbered r 60 n) (minutes_good Any r tt n)
+one_answer (AddSeconds r n k) = of_outcome sum_numbers 0 (add_seconds r n k) (add_seconds_numbered r n k) (seconds_good Any r tt n k)
+one_answer (AddYears r n) = of_outcome sum_numbers 0 (add_years r n) (add_years_numbered r n) (years_good Any r tt n)
+one_answer (AddMonths r n) = of_outcome sum_numbers 0 (add_months r n) (add_months_numbered r n) (months_good Any r tt n)
+one_answer (ReadText text base) = of_placed text_numbers (length text) (read_text text base) (text_among text base) ? (text_accepted text base)
+one_answer (ReadPacket packet base) = of_placed packet_numbers 64 (read_packet packet base) (packet_among packet base) (place_within packet base) (packet_accepted packet base)
 
 -- ---- a moment, a number, a text
 
@@ -153,3 +181,10 @@ one_text r out w left c = by (written r (length out)) refl (written_numbered r (
     by : (o : Outcome (List ℕ)) → written r (length out) ≡ o → Numbered written_numbers o → w ≡ written_answer o → left ≡ over (bytes_of o) out → Writes written_numbers out w left
     by o e (value l) a b = let d = written_long r (length out) l e in rw a (a_text refl d.0 d.1)
     by o e (by_number k n) a b = rw a (no_text n refl b)
+
+-- ---- letters
+
+-- Upper case changes nothing: two texts with the same lower case have one answer, under every base.
+pub same_letters : (s t : List ℕ) → lowered s ≡ lowered t → (base : ExtendedDateTime) → answer (ReadText s base) ≡ answer (ReadText t base)
+unfolding read_text
+same_letters s t e base = ap (λ (l : List ℕ). placed_answer (read_parsed (parse_items l) l base)) e
