@@ -1,5 +1,6 @@
 -- The laws and theorems of the crate `writer`.
 pub mod Digits
+pub mod Decimal
 pub mod Filling
 pub mod Signs
 pub mod Pasting
