@@ -17,9 +17,11 @@ use Rattle.primitive.specs.Text.{lower, lowered, bytes, letter, past, some, star
 use Rattle.primitive.specs.Primitive.{space, alpha1, same, named, beside}
 use Rattle.primitive.proofs.Lowered.{rest_cons, slice_first}
 use Rattle.primitive.proofs.Fronts.{word_else, beyond_text}
+use Rattle.primitive.proofs.Rows.{halves}
 use Rattle.primitive.proofs.Tables.{in_lower, in_bytes, beside_named}
 use Rattle.dates.specs.Date.{months, word_dot, literal_month}
 use Rattle.std.specs.Prelude.{Option}
+use Rattle.std.specs.List.{filter}
 
 -- no byte is no month
 pub no_word : (word text : List ℕ) (at : ℕ) → length word ≡ 0 → none ≡ named months (lowered word) text at
@@ -31,87 +33,47 @@ no_word (b ∷ bs) text at e = absurd (omega arith)
 by_first : (word : List ℕ) → eqb (length word) 0 ≡ false → (l : ℕ) → l ≡ lower (get_or word 0 0) → lowered word ≡ l ∷ drop 1 (lowered word)
 by_first word h l e = let some = eqb-false (length word) 0 h in rest_cons word 0 (omega arith) l e
 
--- the table of the names that begin with b
-abbrev pub Beginning : ℕ → List (String × ℕ) → Type 0
-Beginning b es = (w text : List ℕ) (at : ℕ) → named months (b ∷ w) text at ≡ named es (b ∷ w) text at
+-- a table keeps what it gives a word if the words that are left out are others
+named_filter : {A : Type 0} (p : String × A → Bool) (w text : List ℕ) (at : ℕ) → ((e : String × A) → same w (bytes e.0) ≡ true → p e ≡ true)
+    → (es : List (String × A)) → named (filter p es) w text at ≡ named es w text at
+unfolding named
+named_filter p w text at f [] = refl
+named_filter {A} p w text at f (e ∷ es) = go (p e) (same w (bytes e.0)) refl (f e) (named_filter p w text at f es)
+  where
+    go : (t u : Bool) → same w (bytes e.0) ≡ u → (u ≡ true → t ≡ true) → named (filter p es) w text at ≡ named es w text at
+        → named (cond t (e ∷ filter p es) (filter p es)) w text at ≡ cond u (matched e.1 at) (named es w text at)
+    go true u k i h = rw (k, h) refl
+    go false true k i h = let z = i refl in cc
+    go false false k i h = h
 
-pub by_letter : (l : ℕ) (es : List (String × ℕ)) → Beginning l es → (rows : List (List ℕ × ℕ)) → in_lower rows ≡ in_bytes es → (word : List ℕ) (r : Option ℕ)
+-- the names of months with a first letter
+abbrev first_letter : ℕ → String × ℕ → Bool
+first_letter l e = eqb l (get_or (bytes e.0) 0 0)
+
+first_same : (l : ℕ) (w name : List ℕ) → same (l ∷ w) name ≡ true → eqb l (get_or name 0 0) ≡ true
+unfolding same
+first_same l w [] e = cc
+first_same l w (b ∷ bs) e = (halves (eqb l b) (same w bs) e).0
+
+pub by_letter : (l : ℕ) (rows : List (List ℕ × ℕ)) → in_lower rows ≡ in_bytes (filter (first_letter l) months) → (word : List ℕ) (r : Option ℕ)
     → r ≡ beside rows (lowered word) → eqb (length word) 0 ≡ false → l ≡ lower (get_or word 0 0) → (text : List ℕ) (at : ℕ) → found_at at r ≡ named months (lowered word) text at
-by_letter l es begins rows g word r q h e text at =
+by_letter l rows g word r q h e text at =
     let z = by_first word h l e in
-    rw z (ap (found_at at) (rw z at q) ∙ (beside_named text at (l ∷ drop 1 (lowered word)) es rows g ∙ sym (begins (drop 1 (lowered word)) text at)))
-
-unfoldable pub j_months : List (String × ℕ)
-j_months = ("january", 1) ∷ ("jan", 1) ∷ ("jan.", 1) ∷ ("june", 6) ∷ ("jun", 6) ∷ ("jun.", 6) ∷ ("july", 7) ∷ ("jul", 7) ∷ ("jul.", 7) ∷ []
-
-unfoldable pub m_months : List (String × ℕ)
-m_months = ("march", 3) ∷ ("mar", 3) ∷ ("mar.", 3) ∷ ("may", 5) ∷ ("may.", 5) ∷ []
-
-unfoldable pub a_months : List (String × ℕ)
-a_months = ("april", 4) ∷ ("apr", 4) ∷ ("apr.", 4) ∷ ("august", 8) ∷ ("aug", 8) ∷ ("aug.", 8) ∷ []
-
-unfoldable pub f_months : List (String × ℕ)
-f_months = ("february", 2) ∷ ("feb", 2) ∷ ("feb.", 2) ∷ []
-
-unfoldable pub s_months : List (String × ℕ)
-s_months = ("september", 9) ∷ ("sep", 9) ∷ ("sep.", 9) ∷ ("sept", 9) ∷ []
-
-unfoldable pub o_months : List (String × ℕ)
-o_months = ("october", 10) ∷ ("oct", 10) ∷ ("oct.", 10) ∷ []
-
-unfoldable pub n_months : List (String × ℕ)
-n_months = ("november", 11) ∷ ("nov", 11) ∷ ("nov.", 11) ∷ []
-
-unfoldable pub d_months : List (String × ℕ)
-d_months = ("december", 12) ∷ ("dec", 12) ∷ ("dec.", 12) ∷ []
-
-pub j_begins : Beginning 106 j_months
-unfolding named months same bytes j_months
-j_begins w text at = refl
-
-pub m_begins : Beginning 109 m_months
-unfolding named months same bytes m_months
-m_begins w text at = refl
-
-pub a_begins : Beginning 97 a_months
-unfolding named months same bytes a_months
-a_begins w text at = refl
-
-pub f_begins : Beginning 102 f_months
-unfolding named months same bytes f_months
-f_begins w text at = refl
-
-pub s_begins : Beginning 115 s_months
-unfolding named months same bytes s_months
-s_begins w text at = refl
-
-pub o_begins : Beginning 111 o_months
-unfolding named months same bytes o_months
-o_begins w text at = refl
-
-pub n_begins : Beginning 110 n_months
-unfolding named months same bytes n_months
-n_begins w text at = refl
-
-pub d_begins : Beginning 100 d_months
-unfolding named months same bytes d_months
-d_begins w text at = refl
+    let w = drop 1 (lowered word) in
+    let kept = named_filter (first_letter l) (l ∷ w) text at (λ e. first_same l w (bytes e.0)) months in
+    rw z (ap (found_at at) (rw z at q) ∙ (beside_named text at (l ∷ w) _ rows g ∙ kept))
 
 -- no other letter begins a month
-pub other_letter : (word : List ℕ) → eqb (length word) 0 ≡ false → (b : ℕ) → b ≡ lower (get_or word 0 0)
-    → (b ≡ 106 → ⊥) → (b ≡ 109 → ⊥) → (b ≡ 97 → ⊥) → (b ≡ 102 → ⊥) → (b ≡ 115 → ⊥) → (b ≡ 111 → ⊥) → (b ≡ 110 → ⊥) → (b ≡ 100 → ⊥)
-    → (text : List ℕ) (at : ℕ) → none ≡ named months (lowered word) text at
-unfolding named months same bytes
-other_letter word h b e j m a f g o n d text at =
-    rw
-    (by_first word h b e, ne_eqb b 106 j, ne_eqb b 109 m, ne_eqb b 97 a, ne_eqb b 102 f, ne_eqb b 115 g, ne_eqb b 111 o, ne_eqb b 110 n, ne_eqb b 100 d)
-
--- so too where the letter is the first that is read
 named_other : (b : ℕ) → (b ≡ 106 → ⊥) → (b ≡ 109 → ⊥) → (b ≡ 97 → ⊥) → (b ≡ 102 → ⊥) → (b ≡ 115 → ⊥) → (b ≡ 111 → ⊥) → (b ≡ 110 → ⊥) → (b ≡ 100 → ⊥)
     → (w text : List ℕ) (at : ℕ) → named months (b ∷ w) text at ≡ none
 unfolding named months same bytes
 named_other b j m a f g o n d w text at =
     rw (ne_eqb b 106 j, ne_eqb b 109 m, ne_eqb b 97 a, ne_eqb b 102 f, ne_eqb b 115 g, ne_eqb b 111 o, ne_eqb b 110 n, ne_eqb b 100 d)
+
+pub other_letter : (word : List ℕ) → eqb (length word) 0 ≡ false → (b : ℕ) → b ≡ lower (get_or word 0 0)
+    → (b ≡ 106 → ⊥) → (b ≡ 109 → ⊥) → (b ≡ 97 → ⊥) → (b ≡ 102 → ⊥) → (b ≡ 115 → ⊥) → (b ≡ 111 → ⊥) → (b ≡ 110 → ⊥) → (b ≡ 100 → ⊥)
+    → (text : List ℕ) (at : ℕ) → none ≡ named months (lowered word) text at
+other_letter word h b e j m a f g o n d text at = rw (by_first word h b e) (sym (named_other b j m a f g o n d (drop 1 (lowered word)) text at))
 
 module _ (s : List ℕ) (at start : ℕ) (e : start ≡ space (lowered s) at) where
   pub month_there : (a : Answer ℕ) → a ≡ and_then (word_dot (lowered s) start) (λ w n. named months w (lowered s) n) → a ≡ literal_month (lowered s) at
