@@ -2,14 +2,14 @@
 -- range; blanks may stand between the tokens. What may stand behind the item is a premise: no letter at once, and no word of
 -- direction where none is meant. Assumes nothing.
 use native.Mathlib.Omega.{arith}
-use borrow.Author.Tests.{lt-ltb}
+use borrow.Author.Tests.{lt-ltb, ltb-true}
 use Prim.Native.Nat.{ℕ, ◌^◌, ◌<◌, ◌≤◌}
 use Prim.Native.String.{String}
 use mathlib.Core.Path.{◌≡◌, refl}
 use mathlib.Core.List.{List, [], ◌∷◌, ◌++◌, Memᴰ}
-use mathlib.Core.Bool.{Bool, true, false, not, cond}
+use mathlib.Core.Bool.{Bool, true, false, not, cond, ◌&&◌}
 use lib.ListN.{length}
-use lib.Dec.{eqb}
+use lib.Dec.{eqb, ltb}
 use lib.IntN.{ℤ, pos, neg_ℤ, ◌*ℤ◌}
 use lib.Signed.{mag}
 use Rattle.primitive.specs.Answer.{optional, pure}
@@ -20,7 +20,7 @@ use Rattle.primitive.specs.Ordinal.{signed, ordinals, text_ordinal, signed_numbe
 use Rattle.primitive.specs.declared.SecAndNsec.{SecAndNsec}
 use Rattle.primitive.proofs.Walk.{Reads, Fails, Spaces, ◌⟨◌⟩◌, ◌⟨◌⟩!◌, at_once, first, ◌or◌, ◌nor◌, nothing, verified, behind_space, not_behind_space}
 use Rattle.primitive.proofs.Leaves.{head, blanks_head, letter_no_digit, digit_no_letter, blank_no_digit, other, head_all, tag_read, tag_else, other_start, word_read, word_else, number_read, number_else, number_head, digit_still, number_still, seconds_read, seconds_else, word_still, blanks, still, sign_of, sign_here, no_sign_here, sign_read, sign_else}
-use Rattle.primitive.proofs.Rows.{all, Number}
+use Rattle.primitive.proofs.Rows.{all, halves, Number}
 use Rattle.primitive.proofs.Leaves.{sign_still}
 use Rattle.primitive.proofs.WordTables.{lacks, not_named, distinct, table_read}
 use Rattle.relative.specs.Relative.{direction, rounded, second_words, second_word, signed_seconds, seconds, days, units, stripped, in_unit, displaced, displacement, parse}
@@ -247,56 +247,71 @@ pub record LongUnit (w : List ℕ) (f : ℤ → Relative) (given : ℤ → Type 
   pub word : UnitWord w f given
   pub no_seconds : lacks second_words w ≡ true
 
+given_word : {w : List ℕ} {f : ℤ → Relative} {given : ℤ → Type 0} → ltb 0 (length w) && (all letter w && lacks ordinals w) ≡ true
+    → ((n : ℤ) → given n → (m : List ℕ) → Reads (in_unit n w) m (f n) m) → UnitWord w f given
+given_word {w} h u =
+    let a = halves (ltb 0 (length w)) _ h in
+    let b = halves (all letter w) _ a.1 in
+    record { long = ltb-true 0 (length w) a.0; letters = b.0; no_ordinal = b.1; unit = u }
+
+long_word : {w : List ℕ} {f : ℤ → Relative} {given : ℤ → Type 0} → lacks second_words w && (ltb 0 (length w) && (all letter w && lacks ordinals w)) ≡ true
+    → ((n : ℤ) → given n → (m : List ℕ) → Reads (in_unit n w) m (f n) m) → LongUnit w f given
+long_word {w} h u = let a = halves (lacks second_words w) _ h in record { word = given_word a.1 u; no_seconds = a.0 }
+
+days_read : (k : ℕ) (n : ℤ) → mag (n *ℤ pos k) < 2 ^ 31 → (m : List ℕ) → Reads (days k n) m (Days (n *ℤ pos k)) m
+unfolding days
+days_read k n g m = verified (lt-ltb (mag (n *ℤ pos k)) (2 ^ 31) g)
+
 pub year_word : (s : Bool) → LongUnit (bytes "year" ++ plural s) Years (λ n. Unit {0})
 unfolding lacks second_words ordinals in_unit units named same stripped bytes letter
-year_word true = record { word = record { long = omega arith; letters = refl; no_ordinal = refl; unit = λ n g m. nothing }; no_seconds = refl }
-year_word false = record { word = record { long = omega arith; letters = refl; no_ordinal = refl; unit = λ n g m. nothing }; no_seconds = refl }
+year_word true = long_word refl (λ n g m. nothing)
+year_word false = long_word refl (λ n g m. nothing)
 
 pub month_word : (s : Bool) → LongUnit (bytes "month" ++ plural s) Months (λ n. Unit {0})
 unfolding lacks second_words ordinals in_unit units named same stripped bytes letter
-month_word true = record { word = record { long = omega arith; letters = refl; no_ordinal = refl; unit = λ n g m. nothing }; no_seconds = refl }
-month_word false = record { word = record { long = omega arith; letters = refl; no_ordinal = refl; unit = λ n g m. nothing }; no_seconds = refl }
+month_word true = long_word refl (λ n g m. nothing)
+month_word false = long_word refl (λ n g m. nothing)
 
 pub day_word : (s : Bool) → LongUnit (bytes "day" ++ plural s) Days (λ n. Unit {0})
 unfolding lacks second_words ordinals in_unit units named same stripped bytes letter
-day_word true = record { word = record { long = omega arith; letters = refl; no_ordinal = refl; unit = λ n g m. nothing }; no_seconds = refl }
-day_word false = record { word = record { long = omega arith; letters = refl; no_ordinal = refl; unit = λ n g m. nothing }; no_seconds = refl }
+day_word true = long_word refl (λ n g m. nothing)
+day_word false = long_word refl (λ n g m. nothing)
 
 pub hour_word : (s : Bool) → LongUnit (bytes "hour" ++ plural s) Hours (λ n. Unit {0})
 unfolding lacks second_words ordinals in_unit units named same stripped bytes letter
-hour_word true = record { word = record { long = omega arith; letters = refl; no_ordinal = refl; unit = λ n g m. nothing }; no_seconds = refl }
-hour_word false = record { word = record { long = omega arith; letters = refl; no_ordinal = refl; unit = λ n g m. nothing }; no_seconds = refl }
+hour_word true = long_word refl (λ n g m. nothing)
+hour_word false = long_word refl (λ n g m. nothing)
 
 pub minute_word : (s : Bool) → LongUnit (bytes "minute" ++ plural s) Minutes (λ n. Unit {0})
 unfolding lacks second_words ordinals in_unit units named same stripped bytes letter
-minute_word true = record { word = record { long = omega arith; letters = refl; no_ordinal = refl; unit = λ n g m. nothing }; no_seconds = refl }
-minute_word false = record { word = record { long = omega arith; letters = refl; no_ordinal = refl; unit = λ n g m. nothing }; no_seconds = refl }
+minute_word true = long_word refl (λ n g m. nothing)
+minute_word false = long_word refl (λ n g m. nothing)
 
 pub min_word : (s : Bool) → LongUnit (bytes "min" ++ plural s) Minutes (λ n. Unit {0})
 unfolding lacks second_words ordinals in_unit units named same stripped bytes letter
-min_word true = record { word = record { long = omega arith; letters = refl; no_ordinal = refl; unit = λ n g m. nothing }; no_seconds = refl }
-min_word false = record { word = record { long = omega arith; letters = refl; no_ordinal = refl; unit = λ n g m. nothing }; no_seconds = refl }
+min_word true = long_word refl (λ n g m. nothing)
+min_word false = long_word refl (λ n g m. nothing)
 
 -- weeks and fortnights, where an i32 holds their days
 pub week_word : (s : Bool) → LongUnit (bytes "week" ++ plural s) (λ n. Days (n *ℤ pos 7)) (λ n. mag (n *ℤ pos 7) < 2 ^ 31)
-unfolding lacks second_words ordinals in_unit units named same stripped bytes letter days
-week_word true = record { word = record { long = omega arith; letters = refl; no_ordinal = refl; unit = λ n g m. verified (lt-ltb (mag (n *ℤ pos 7)) (2 ^ 31) g) }; no_seconds = refl }
-week_word false = record { word = record { long = omega arith; letters = refl; no_ordinal = refl; unit = λ n g m. verified (lt-ltb (mag (n *ℤ pos 7)) (2 ^ 31) g) }; no_seconds = refl }
+unfolding lacks second_words ordinals in_unit units named same stripped bytes letter
+week_word true = long_word refl (days_read 7)
+week_word false = long_word refl (days_read 7)
 
 pub fortnight_word : (s : Bool) → LongUnit (bytes "fortnight" ++ plural s) (λ n. Days (n *ℤ pos 14)) (λ n. mag (n *ℤ pos 14) < 2 ^ 31)
-unfolding lacks second_words ordinals in_unit units named same stripped bytes letter days
-fortnight_word true = record { word = record { long = omega arith; letters = refl; no_ordinal = refl; unit = λ n g m. verified (lt-ltb (mag (n *ℤ pos 14)) (2 ^ 31) g) }; no_seconds = refl }
-fortnight_word false = record { word = record { long = omega arith; letters = refl; no_ordinal = refl; unit = λ n g m. verified (lt-ltb (mag (n *ℤ pos 14)) (2 ^ 31) g) }; no_seconds = refl }
+unfolding lacks second_words ordinals in_unit units named same stripped bytes letter
+fortnight_word true = long_word refl (days_read 14)
+fortnight_word false = long_word refl (days_read 14)
 
 pub second_unit_word : (s : Bool) → UnitWord (bytes "second" ++ plural s) (λ n. Seconds n 0) (λ n. Unit {0})
 unfolding lacks ordinals in_unit units named same stripped bytes letter
-second_unit_word true = record { long = omega arith; letters = refl; no_ordinal = refl; unit = λ n g m. nothing }
-second_unit_word false = record { long = omega arith; letters = refl; no_ordinal = refl; unit = λ n g m. nothing }
+second_unit_word true = given_word refl (λ n g m. nothing)
+second_unit_word false = given_word refl (λ n g m. nothing)
 
 pub sec_unit_word : (s : Bool) → UnitWord (bytes "sec" ++ plural s) (λ n. Seconds n 0) (λ n. Unit {0})
 unfolding lacks ordinals in_unit units named same stripped bytes letter
-sec_unit_word true = record { long = omega arith; letters = refl; no_ordinal = refl; unit = λ n g m. nothing }
-sec_unit_word false = record { long = omega arith; letters = refl; no_ordinal = refl; unit = λ n g m. nothing }
+sec_unit_word true = given_word refl (λ n g m. nothing)
+sec_unit_word false = given_word refl (λ n g m. nothing)
 
 -- the number with its direction
 abbrev pub turned : Bool → ℤ → ℤ
