@@ -77,36 +77,6 @@ time_back t = by t.offset refl
     by (Some o) e = signed_by o o.negative e refl
     by None e = rw e refl
 
-both_date : (v : DateTime) → date_of (with_time (with_date 3 v.date) v.time) ≡ v.date
-unfolding date_of with_time with_date year_of
-both_date v = by v.date.year refl v.time.offset refl
-  where
-    signed_by : (y : Option ℕ) (o : Offset) (n : Bool) → v.date.year ≡ y → v.time.offset ≡ Some o → o.negative ≡ n → date_of (with_time (with_date 3 v.date) v.time) ≡ v.date
-    signed_by (Some y) o true d e k = rw (d, e, k) refl
-    signed_by (Some y) o false d e k = rw (d, e, k) refl
-    signed_by None o true d e k = rw (d, e, k) refl
-    signed_by None o false d e k = rw (d, e, k) refl
-
-    by : (y : Option ℕ) → v.date.year ≡ y → (o : Option Offset) → v.time.offset ≡ o → date_of (with_time (with_date 3 v.date) v.time) ≡ v.date
-    by y d (Some o) e = signed_by y o o.negative d e refl
-    by (Some y) d None e = rw (d, e) refl
-    by None d None e = rw (d, e) refl
-
-both_time : (v : DateTime) → time_of (with_time (with_date 3 v.date) v.time) ≡ v.time
-unfolding time_of with_time with_date time_offset_of
-both_time v = by v.date.year refl v.time.offset refl
-  where
-    signed_by : (y : Option ℕ) (o : Offset) (n : Bool) → v.date.year ≡ y → v.time.offset ≡ Some o → o.negative ≡ n → time_of (with_time (with_date 3 v.date) v.time) ≡ v.time
-    signed_by (Some y) o true d e k = rw (d, e, k) refl
-    signed_by (Some y) o false d e k = rw (d, e, k) refl
-    signed_by None o true d e k = rw (d, e, k) refl
-    signed_by None o false d e k = rw (d, e, k) refl
-
-    by : (y : Option ℕ) → v.date.year ≡ y → (o : Option Offset) → v.time.offset ≡ o → time_of (with_time (with_date 3 v.date) v.time) ≡ v.time
-    by y d (Some o) e = signed_by y o o.negative d e refl
-    by (Some y) d None e = rw (d, e) refl
-    by None d None e = rw (d, e) refl
-
 -- ---- the item
 
 relative_back : (r : Relative) (used : ℕ) → amount r ≡ true → item_of (of_relative r) used ≡ accepted (item.Relative r)
@@ -127,8 +97,19 @@ unfolding item_of with_time
 time_item t used = ap (λ (v : Time). accepted (item.Time v)) (time_back t)
 
 both_item : (v : DateTime) (used : ℕ) → item_of (with_time (with_date 3 v.date) v.time) used ≡ accepted (item.DateTime v)
-unfolding item_of with_time with_date
-both_item v used = rw (both_date v, both_time v) refl
+unfolding item_of date_of time_of with_date with_time year_of time_offset_of
+both_item v used = by v.date.year refl v.time.offset refl
+  where
+    signed_by : (y : Option ℕ) (o : Offset) (n : Bool) → v.date.year ≡ y → v.time.offset ≡ Some o → o.negative ≡ n → item_of (with_time (with_date 3 v.date) v.time) used ≡ accepted (item.DateTime v)
+    signed_by (Some y) o true d e k = rw (d, e, k) refl
+    signed_by (Some y) o false d e k = rw (d, e, k) refl
+    signed_by None o true d e k = rw (d, e, k) refl
+    signed_by None o false d e k = rw (d, e, k) refl
+
+    by : (y : Option ℕ) → v.date.year ≡ y → (o : Option Offset) → v.time.offset ≡ o → item_of (with_time (with_date 3 v.date) v.time) used ≡ accepted (item.DateTime v)
+    by y d (Some o) e = signed_by y o o.negative d e refl
+    by (Some y) d None e = rw (d, e) refl
+    by None d None e = rw (d, e) refl
 
 weekday_item : (w : Weekday) (used : ℕ) → in_i32 w.offset ≡ true → item_of (counted 4 (day_index w.day) (twos_complement w.offset) 0) used ≡ accepted (item.Weekday w)
 unfolding item_of weekday_of

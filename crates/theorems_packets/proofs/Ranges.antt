@@ -216,25 +216,9 @@ module _ (z : ℤ) (h : in_i32 z ≡ true) where
   held : (u : ℕ) → Held (counted 7 u (twos_complement z) 0)
   held u = counted_held u 0 z (wide z h) (omega arith)
 
-  years : GoodRelative (relative.Years z)
-  unfolding in_range amounts amount fields_of of_relative placed
-  years = record { holds = record { range = refl; sums = h; fits = held 1; begins = tt }; none_used = refl }
-
-  months : GoodRelative (relative.Months z)
-  unfolding in_range amounts amount fields_of of_relative placed
-  months = record { holds = record { range = refl; sums = h; fits = held 2; begins = tt }; none_used = refl }
-
-  some_days : GoodRelative (relative.Days z)
-  unfolding in_range amounts amount fields_of of_relative placed
-  some_days = record { holds = record { range = refl; sums = h; fits = held 3; begins = tt }; none_used = refl }
-
-  hours : GoodRelative (relative.Hours z)
-  unfolding in_range amounts amount fields_of of_relative placed
-  hours = record { holds = record { range = refl; sums = h; fits = held 4; begins = tt }; none_used = refl }
-
-  minutes : GoodRelative (relative.Minutes z)
-  unfolding in_range amounts amount fields_of of_relative placed
-  minutes = record { holds = record { range = refl; sums = h; fits = held 5; begins = tt }; none_used = refl }
+  unit_good : {r : Relative} (u : ℕ) → of_relative r ≡ counted 7 u (twos_complement z) 0 → amount r ≡ in_i32 z → GoodRelative r
+  unfolding in_range amounts fields_of placed
+  unit_good u e a = record { holds = record { range = refl; sums = rw a h; fits = rw e (held u); begins = tt }; none_used = refl }
 
 some_seconds : (z : ℤ) (k : ℕ) → in_i64 z ≡ true → k < 4294967296 → GoodRelative (relative.Seconds z k)
 unfolding in_range amounts amount fields_of of_relative placed
@@ -279,20 +263,20 @@ in_i32_lem (pos n) h = le-leb n 2147483647 (omega (arith, ltb-true n 2147483648 
 in_i32_lem (negsuc n) h = rw (le-leb n 2147483647 (omega (arith, ltb-true n 2147483648 h))) refl
 
 days_gives : (k : ℕ) (z : ℤ) → Gives GoodRelative (days k z)
-unfolding days
-days_gives k z = verify_gives GoodRelative (ltb (mag (z *ℤ pos k)) (2 ^ 31)) _ (λ e. some_days (z *ℤ pos k) (in_i32_lem (z *ℤ pos k) e))
+unfolding days of_relative amount
+days_gives k z = verify_gives GoodRelative (ltb (mag (z *ℤ pos k)) (2 ^ 31)) _ (λ e. unit_good (z *ℤ pos k) (in_i32_lem (z *ℤ pos k) e) 3 refl refl)
 
 abbrev GoodUnit : ℤ → (ℤ → Reader Relative) → Type 0
 GoodUnit z f = Gives GoodRelative (f z)
 
 in_unit_gives : (z : ℤ) (w : List ℕ) → Small z → Gives GoodRelative (in_unit z w)
-unfolding in_unit units
+unfolding in_unit units of_relative amount
 in_unit_gives z w s =
     let h = small_in z s in
     then_gives GoodRelative (GoodUnit z) (named units (stripped w)) _
     (named_gives (GoodUnit z) (stripped w) units
-    (one_more (pure_gives GoodRelative _ (years z h)) (one_more (pure_gives GoodRelative _ (months z h)) (one_more (days_gives 14 z) (one_more (days_gives 7 z)
-    (one_more (pure_gives GoodRelative _ (some_days z h)) (one_more (pure_gives GoodRelative _ (hours z h)) (one_more (pure_gives GoodRelative _ (minutes z h)) (one_more (pure_gives GoodRelative _ (minutes z h))
+    (one_more (pure_gives GoodRelative _ (unit_good z h 1 refl refl)) (one_more (pure_gives GoodRelative _ (unit_good z h 2 refl refl)) (one_more (days_gives 14 z) (one_more (days_gives 7 z)
+    (one_more (pure_gives GoodRelative _ (unit_good z h 3 refl refl)) (one_more (pure_gives GoodRelative _ (unit_good z h 4 refl refl)) (one_more (pure_gives GoodRelative _ (unit_good z h 5 refl refl)) (one_more (pure_gives GoodRelative _ (unit_good z h 5 refl refl))
     (one_more (pure_gives GoodRelative _ (some_seconds z 0 (wide z h) (omega arith))) (one_more (pure_gives GoodRelative _ (some_seconds z 0 (wide z h) (omega arith))) no_more)))))))))))
     (λ f g. g)
 
