@@ -25,7 +25,7 @@ pub fn unpack(fields: Fields, used: u16) -> Option<Item>
 }
 
 // The item by its kind, in range or not. `used`: the digits of the pure numbers before it.
-#[tactic(auto, unfolding(packet_fields::specs::Fields::item_of, packet_fields::specs::Fields::later_kind))]
+#[tactic(auto, unfolding(packet_fields::specs::Fields::item_of))]
 fn item_of(fields: Fields, used: u16) -> Option<Item>
     ensures { found_of result ≡ item_of fields used }
 {
@@ -125,7 +125,7 @@ fn fitting(fields: Fields, item: Item) -> Option<Item>
 }
 
 // The caller wants an Option: `TryFrom` would have an error, made only to be dropped.
-#[tactic(auto, unfolding(packet_fields::specs::Fields::day_of, packet_fields::specs::Fields::later_day))]
+#[tactic(auto, unfolding(packet_fields::specs::Fields::day_of))]
 fn day_of(n: u8) -> Option<Day>
     ensures { found_of result ≡ day_of n }
 {
@@ -141,7 +141,7 @@ fn day_of(n: u8) -> Option<Day>
     }
 }
 
-#[tactic(auto, unfolding(packet_fields::specs::Fields::unit_of, packet_fields::specs::Fields::later_unit))]
+#[tactic(auto, unfolding(packet_fields::specs::Fields::unit_of))]
 fn unit_of(unit: u8, n: i32) -> Option<Item>
     ensures { found_of result ≡ unit_of unit n }
 {

@@ -145,7 +145,7 @@ fn sign_flag(negative: bool) -> u8
     if negative { flag::WEST } else { 0 }
 }
 
-#[tactic(auto, unfolding(packet_fields::specs::Fields::same, packet_fields::specs::Fields::same_date, packet_fields::specs::Fields::same_later, packet_fields::specs::Fields::same_time, packet_fields::specs::Fields::same_rest))]
+#[tactic(auto, unfolding(packet_fields::specs::Fields::same))]
 pub fn same(a: Fields, b: Fields) -> bool
     ensures { result ≡ same a b }
 {

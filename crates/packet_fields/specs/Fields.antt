@@ -67,12 +67,11 @@ time_offset_of f = cond (flagged 2 f.flags) (Some (offset_of f)) None
 unfoldable pub time_of : Fields → Time
 time_of f = record { hour = f.hour; minute = f.minute; second = f.second; nanosecond = f.nanosecond; offset = time_offset_of f }
 
--- a weekday by its number, Monday 0; this definition has those from 4 on
-unfoldable pub later_day : ℕ → Outcome Day
-later_day n = cond (eqb n 4) (accepted day.Friday) (cond (eqb n 5) (accepted day.Saturday) (cond (eqb n 6) (accepted day.Sunday) (refused refusal.packet)))
-
+-- a weekday by its number, Monday 0
 unfoldable pub day_of : ℕ → Outcome Day
-day_of n = cond (eqb n 0) (accepted day.Monday) (cond (eqb n 1) (accepted day.Tuesday) (cond (eqb n 2) (accepted day.Wednesday) (cond (eqb n 3) (accepted day.Thursday) (later_day n))))
+day_of n =
+    cond (eqb n 0) (accepted day.Monday) (cond (eqb n 1) (accepted day.Tuesday) (cond (eqb n 2) (accepted day.Wednesday) (cond (eqb n 3) (accepted day.Thursday)
+    (cond (eqb n 4) (accepted day.Friday) (cond (eqb n 5) (accepted day.Saturday) (cond (eqb n 6) (accepted day.Sunday) (refused refusal.packet)))))))
 
 -- an amount in an i32, as all but those of seconds
 unfoldable pub small : ℕ → Outcome ℤ
@@ -86,29 +85,24 @@ weekday_of f = do
   d ← day_of f.which
   accepted (item.Weekday (record { offset = n; day = d }))
 
--- a unit by its number, from 1 years to 6 seconds; this definition has hours and minutes
-unfoldable pub later_unit : ℕ → ℤ → Outcome Item
-later_unit unit n = cond (eqb unit 4) (accepted (item.Relative (relative.Hours n))) (cond (eqb unit 5) (accepted (item.Relative (relative.Minutes n))) (refused refusal.packet))
-
+-- a unit by its number, from 1 years to 5 minutes
 unfoldable pub unit_of : ℕ → ℤ → Outcome Item
 unit_of unit n =
     cond (eqb unit 1) (accepted (item.Relative (relative.Years n))) (cond (eqb unit 2) (accepted (item.Relative (relative.Months n)))
-    (cond (eqb unit 3) (accepted (item.Relative (relative.Days n))) (later_unit unit n)))
+    (cond (eqb unit 3) (accepted (item.Relative (relative.Days n))) (cond (eqb unit 4) (accepted (item.Relative (relative.Hours n)))
+    (cond (eqb unit 5) (accepted (item.Relative (relative.Minutes n))) (refused refusal.packet)))))
 
 unfoldable pub relative_of : Fields → Outcome Item
 relative_of f = cond (eqb f.which 6) (accepted (item.Relative (relative.Seconds (from_twos_complement f.amount) f.nanosecond))) (small f.amount >>= unit_of f.which)
 
--- An item by its kind: 1 date, 2 time, 3 both, 4 weekday, 5 zone, 6 local zone, 7 relative, 8 pure; this definition has those from 5 on. The
--- digits of a pure number come after those that are used.
-unfoldable pub later_kind : Fields → ℕ → Outcome Item
-later_kind f used =
-    cond (eqb f.kind 5) (accepted (item.Offset (offset_of f))) (cond (eqb f.kind 6) (accepted item.LocalZone)
-    (cond (eqb f.kind 7) (relative_of f) (cond (eqb f.kind 8) (accepted (item.Pure (record { start = used; length = f.length }))) (refused refusal.packet))))
-
+-- An item by its kind: 1 date, 2 time, 3 both, 4 weekday, 5 zone, 6 local zone, 7 relative, 8 pure. The digits of a pure number come after those
+-- that are used.
 unfoldable pub item_of : Fields → ℕ → Outcome Item
 item_of f used =
     cond (eqb f.kind 1) (accepted (item.Date (date_of f))) (cond (eqb f.kind 2) (accepted (item.Time (time_of f)))
-    (cond (eqb f.kind 3) (accepted (item.DateTime (record { date = date_of f; time = time_of f }))) (cond (eqb f.kind 4) (weekday_of f) (later_kind f used))))
+    (cond (eqb f.kind 3) (accepted (item.DateTime (record { date = date_of f; time = time_of f }))) (cond (eqb f.kind 4) (weekday_of f)
+    (cond (eqb f.kind 5) (accepted (item.Offset (offset_of f))) (cond (eqb f.kind 6) (accepted item.LocalZone)
+    (cond (eqb f.kind 7) (relative_of f) (cond (eqb f.kind 8) (accepted (item.Pure (record { start = used; length = f.length }))) (refused refusal.packet))))))))
 
 -- ---- ranges: SCOPE, 'Ranges'
 
@@ -204,20 +198,11 @@ fields_of (item.Pure p) = of_pure p
 
 -- ---- the whole
 
-unfoldable pub same_date : Fields → Fields → Bool
-same_date a b = eqb a.kind b.kind && (eqb a.which b.which && (eqb a.month b.month && (eqb a.day b.day && eqb a.year b.year)))
-
-unfoldable pub same_time : Fields → Fields → Bool
-same_time a b = eqb a.hour b.hour && (eqb a.minute b.minute && (eqb a.second b.second && (eqb a.flags b.flags && eqb a.nanosecond b.nanosecond)))
-
-unfoldable pub same_rest : Fields → Fields → Bool
-same_rest a b = eqb a.offset_hours b.offset_hours && (eqb a.offset_minutes b.offset_minutes && (eqb a.length b.length && eqb a.amount b.amount))
-
-unfoldable pub same_later : Fields → Fields → Bool
-same_later a b = same_time a b && same_rest a b
-
 unfoldable pub same : Fields → Fields → Bool
-same a b = same_date a b && same_later a b
+same a b =
+    eqb a.kind b.kind && (eqb a.which b.which && (eqb a.month b.month && (eqb a.day b.day && (eqb a.year b.year
+    && (eqb a.hour b.hour && (eqb a.minute b.minute && (eqb a.second b.second && (eqb a.flags b.flags && (eqb a.nanosecond b.nanosecond
+    && (eqb a.offset_hours b.offset_hours && (eqb a.offset_minutes b.offset_minutes && (eqb a.length b.length && eqb a.amount b.amount))))))))))))
 
 -- the item, if it is in range and these are its fields
 unfoldable pub fitting : Fields → Item → Outcome Item

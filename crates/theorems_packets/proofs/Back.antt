@@ -23,7 +23,7 @@ use Rattle.items.specs.declared.Item.{Item}
 use Rattle.items.specs.declared.Item.TheVariants as item
 use Rattle.items.specs.Items.{day_index}
 use Rattle.primitive.proofs.Rows.{halves}
-use Rattle.packet_fields.specs.Fields.{from_twos_complement, twos_complement, small, year_of, date_of, time_offset_of, time_of, later_day, day_of, weekday_of, later_unit, unit_of, relative_of, later_kind, item_of, in_range, with_date, with_time, of_zone, of_relative, of_pure, counted, fields_of, same_date, same_time, same_rest, same_later, same, fitting, unpacked}
+use Rattle.packet_fields.specs.Fields.{from_twos_complement, twos_complement, small, year_of, date_of, time_offset_of, time_of, day_of, weekday_of, unit_of, relative_of, item_of, in_range, with_date, with_time, of_zone, of_relative, of_pure, counted, fields_of, same, fitting, unpacked}
 use Rattle.packet_fields.specs.declared.Fields.{Fields}
 use Rattle.theorems_packets.specs.Writing.{amount, amounts}
 
@@ -48,7 +48,7 @@ small_back z h = rw (signed_back z (wide z h), h)
 -- ---- parts
 
 day_back : (d : Day) → day_of (day_index d) ≡ accepted d
-unfolding day_of later_day
+unfolding day_of
 day_back day.Monday = refl
 day_back day.Tuesday = refl
 day_back day.Wednesday = refl
@@ -80,7 +80,7 @@ time_back t = by t.offset refl
 -- ---- the item
 
 relative_back : (r : Relative) (used : ℕ) → amount r ≡ true → item_of (of_relative r) used ≡ accepted (item.Relative r)
-unfolding item_of later_kind relative_of unit_of later_unit of_relative amount
+unfolding item_of relative_of unit_of of_relative amount
 relative_back (relative.Years n) used h = rw (small_back n h) refl
 relative_back (relative.Months n) used h = rw (small_back n h) refl
 relative_back (relative.Days n) used h = rw (small_back n h) refl
@@ -116,7 +116,7 @@ unfolding item_of weekday_of
 weekday_item w used h = rw (small_back w.offset h, day_back w.day) refl
 
 zone_item : (o : Offset) (used : ℕ) → item_of (of_zone o) used ≡ accepted (item.Offset o)
-unfolding item_of later_kind of_zone
+unfolding item_of of_zone
 zone_item o used = by o.negative refl
   where
     by : (t : Bool) → o.negative ≡ t → item_of (of_zone o) used ≡ accepted (item.Offset o)
@@ -124,11 +124,11 @@ zone_item o used = by o.negative refl
     by false k = rw k refl
 
 local_item : (used : ℕ) → item_of (counted 6 0 0 0) used ≡ accepted item.LocalZone
-unfolding item_of later_kind
+unfolding item_of
 local_item used = refl
 
 pure_item : (p : Pure) (used : ℕ) → p.start ≡ used → item_of (of_pure p) used ≡ accepted (item.Pure p)
-unfolding item_of later_kind
+unfolding item_of
 pure_item p used s = rw (← s) refl
 
 -- a pure number's digits begin behind those that are used
@@ -159,7 +159,7 @@ itself : (n : ℕ) → eqb n n ≡ true
 itself n = eq-eqb n n refl
 
 same_itself : (f : Fields) → same f f ≡ true
-unfolding same same_later same_date same_time same_rest
+unfolding same
 same_itself f =
     rw (itself f.kind, itself f.which, itself f.month, itself f.day, itself f.year, itself f.hour, itself f.minute, itself f.second, itself f.flags, itself f.nanosecond, itself f.offset_hours, itself f.offset_minutes, itself f.length, itself f.amount) refl
 

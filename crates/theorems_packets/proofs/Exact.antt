@@ -14,7 +14,7 @@ use Rattle.primitive.proofs.Rows.{halves}
 use Rattle.items.specs.declared.Item.{Item}
 use Rattle.answers.specs.Placed as placing
 use Rattle.answers.specs.Placed.{Placed, fine, refusal, ◌>>=◌, ◌>>◌}
-use Rattle.packet_fields.specs.Fields.{little, fields_from, fields_at, item_of, fields_of, in_range, same_date, same_time, same_rest, same_later, same, fitting, unpacked, digits_used}
+use Rattle.packet_fields.specs.Fields.{little, fields_from, fields_at, item_of, fields_of, in_range, same, fitting, unpacked, digits_used}
 use Rattle.packet_fields.specs.declared.Fields.{Fields}
 use Rattle.packet.specs.Packet.{count, header, digits, digits_stand, item_at, items_from, packet_items}
 use Rattle.packet.proofs.Steps.{items_at, digits_at, exact}
@@ -45,23 +45,26 @@ module _ (l : List ℕ) (b : Bytes l) where
 
 -- ---- fields that are the same
 
+equal_and : (m n : ℕ) (t : Bool) → eqb m n && t ≡ true → (m ≡ n) × (t ≡ true)
+equal_and m n t h = let k = halves (eqb m n) t h in (eqb-true m n k.0, k.1)
+
 same_fields : (a b : Fields) → same a b ≡ true → a ≡ b
-unfolding same same_later same_date same_time same_rest
+unfolding same
 same_fields a b h =
-    let p = halves (eqb a.kind b.kind && (eqb a.which b.which && (eqb a.month b.month && (eqb a.day b.day && eqb a.year b.year)))) _ h in
-    let k0 = halves (eqb a.kind b.kind) _ p.0 in
-    let k1 = halves (eqb a.which b.which) _ k0.1 in
-    let k2 = halves (eqb a.month b.month) _ k1.1 in
-    let k3 = halves (eqb a.day b.day) _ k2.1 in
-    let q = halves (eqb a.hour b.hour && (eqb a.minute b.minute && (eqb a.second b.second && (eqb a.flags b.flags && eqb a.nanosecond b.nanosecond)))) _ p.1 in
-    let k4 = halves (eqb a.hour b.hour) _ q.0 in
-    let k5 = halves (eqb a.minute b.minute) _ k4.1 in
-    let k6 = halves (eqb a.second b.second) _ k5.1 in
-    let k7 = halves (eqb a.flags b.flags) _ k6.1 in
-    let k8 = halves (eqb a.offset_hours b.offset_hours) _ q.1 in
-    let k9 = halves (eqb a.offset_minutes b.offset_minutes) _ k8.1 in
-    let k10 = halves (eqb a.length b.length) _ k9.1 in
-    rw (eqb-true a.kind b.kind k0.0, eqb-true a.which b.which k1.0, eqb-true a.month b.month k2.0, eqb-true a.day b.day k3.0, eqb-true a.year b.year k3.1, eqb-true a.hour b.hour k4.0, eqb-true a.minute b.minute k5.0, eqb-true a.second b.second k6.0, eqb-true a.flags b.flags k7.0, eqb-true a.nanosecond b.nanosecond k7.1, eqb-true a.offset_hours b.offset_hours k8.0, eqb-true a.offset_minutes b.offset_minutes k9.0, eqb-true a.length b.length k10.0, eqb-true a.amount b.amount k10.1) refl
+    let k0 = equal_and a.kind b.kind _ h in
+    let k1 = equal_and a.which b.which _ k0.1 in
+    let k2 = equal_and a.month b.month _ k1.1 in
+    let k3 = equal_and a.day b.day _ k2.1 in
+    let k4 = equal_and a.year b.year _ k3.1 in
+    let k5 = equal_and a.hour b.hour _ k4.1 in
+    let k6 = equal_and a.minute b.minute _ k5.1 in
+    let k7 = equal_and a.second b.second _ k6.1 in
+    let k8 = equal_and a.flags b.flags _ k7.1 in
+    let k9 = equal_and a.nanosecond b.nanosecond _ k8.1 in
+    let k10 = equal_and a.offset_hours b.offset_hours _ k9.1 in
+    let k11 = equal_and a.offset_minutes b.offset_minutes _ k10.1 in
+    let k12 = equal_and a.length b.length _ k11.1 in
+    rw (k0.0, k1.0, k2.0, k3.0, k4.0, k5.0, k6.0, k7.0, k8.0, k9.0, k10.0, k11.0, k12.0, eqb-true a.amount b.amount k12.1) refl
 
 -- ---- items
 

@@ -5,7 +5,7 @@ use mathlib.Core.List.{List}
 use Rattle.extended.specs.Extended.{test}
 use Rattle.extended.specs.declared.ExtendedDateTime.{ExtendedDateTime}
 use Rattle.host_calls.specs.Given.{packet_numbers}
-use Rattle.packet_fields.specs.Fields.{later_day, day_of, small, weekday_of, later_unit, unit_of, relative_of, later_kind, item_of, fitting, unpacked}
+use Rattle.packet_fields.specs.Fields.{day_of, small, weekday_of, unit_of, relative_of, item_of, fitting, unpacked}
 use Rattle.packet_fields.specs.declared.Fields.{Fields}
 use Rattle.packet.specs.Packet.{header, item_at, items_from, build_items, read_packet}
 use Rattle.builder.specs.Building.{build}
@@ -18,15 +18,15 @@ unfolding header
 header_numbered bytes = search steps
 
 weekday_of_numbered : (f : Fields) → Numbered packet_numbers (weekday_of f)
-unfolding weekday_of small day_of later_day
+unfolding weekday_of small day_of
 weekday_of_numbered f = search steps depth 10
 
 relative_of_numbered : (f : Fields) → Numbered packet_numbers (relative_of f)
-unfolding relative_of small unit_of later_unit
+unfolding relative_of small unit_of
 relative_of_numbered f = search steps depth 10
 
 unpacked_numbered : (f : Fields) (used : ℕ) → Numbered packet_numbers (unpacked f used)
-unfolding unpacked item_of later_kind fitting
+unfolding unpacked item_of fitting
 unpacked_numbered f used = search (steps, weekday_of_numbered, relative_of_numbered) depth 12
 
 item_at_numbered : (bytes area : List ℕ) (i used : ℕ) → Numbered packet_numbers (item_at bytes area i used)
