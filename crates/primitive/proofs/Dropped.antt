@@ -14,15 +14,6 @@ drops_never stop v n e = let z : ◌≡◌ {A = ℕ} 0 1 = cc in clash z
 
 -- ---- in a chain
 
-module _ {A B : Type 0} (f : A → ℕ → Answer B) (p : Answer A) where
-  pub carried_then : (d : Bool) (v : A) (n : ℕ) (q : Answer B) → carry d (matched v n) ≡ p → q ≡ carry d (f v n) → q ≡ and_then p f
-  carried_then true v n q e k = rw (← e) k
-  carried_then false v n q e k = rw (← e) k
-
-pub carried_first : {A : Type 0} (p q : Answer A) (d : Bool) (v : A) (n : ℕ) → carry d (matched v n) ≡ p → carry d (matched v n) ≡ or_else p q
-carried_first p q true v n e = rw (← e)
-carried_first p q false v n e = rw (← e)
-
 -- what the rest answers, after the same digits
 module _ {A : Type 0} (d : Bool) (a : Answer A) where
   pub carry_match : (v : A) (n : ℕ) → matched v n ≡ a → carry d (matched v n) ≡ carry d a

@@ -1,8 +1,7 @@
 -- Two readers that begin with the same part, which the code reads once. Assumes nothing.
 use Prim.Native.Nat.{ℕ}
-use mathlib.Core.Path.{◌≡◌, refl, sym, ap, ◌∙◌}
-use Rattle.primitive.specs.Answer.{Answer, matched, dropped, none, stop, drops, and_then, or_else, answer_of}
-use Rattle.std.specs.Prelude.{Option, Some, None}
+use mathlib.Core.Path.{◌≡◌, refl}
+use Rattle.primitive.specs.Answer.{Answer, matched, dropped, none, stop, drops, and_then, or_else}
 use Rattle.primitive.proofs.Chain.{chain}
 
 or_drops : {B : Type 0} (a b : Answer B) → or_else (drops a) (drops b) ≡ drops (or_else a b)
@@ -18,12 +17,11 @@ shared (dropped v n) f g = or_drops (f v n) (g v n)
 shared none f g = refl
 shared stop f g = refl
 
--- where the part and its end were read
-module _ {A B : Type 0} (p : Answer A) (r : Option (A × ℕ)) (e : answer_of r ≡ p) (f g : A → ℕ → Answer B) where
-  pub shared_match : (v : A) (n : ℕ) (q : Answer B) → r ≡ Some (v, n) → q ≡ or_else (f v n) (g v n) → q ≡ or_else (and_then p f) (and_then p g)
-  shared_match v n q k h = rw (sym e ∙ ap answer_of k) h
+module _ {A B : Type 0} (p : Answer A) (f g : A → ℕ → Answer B) where
+  pub shared_match : (v : A) (n : ℕ) (q : Answer B) → p ≡ matched v n → q ≡ or_else (f v n) (g v n) → q ≡ or_else (and_then p f) (and_then p g)
+  shared_match v n q e k = rw e k
 
-  pub shared_none : r ≡ None → none ≡ or_else (and_then p f) (and_then p g)
-  shared_none k = rw (sym e ∙ ap answer_of k)
+  pub shared_none : p ≡ none → none ≡ or_else (and_then p f) (and_then p g)
+  shared_none e = rw e
 
 pub ruleset shared_chain = (shared_match, shared_none, chain)

@@ -7,7 +7,7 @@ use mathlib.Core.Logic.{◌⊎◌, inl, inr}
 use mathlib.Core.Bool.{Bool, true, false}
 use lib.ListN.{length, get_or, get_or-eq_default}
 use lib.Dec.{ltb}
-use Rattle.primitive.specs.Answer.{Answer, matched, dropped, none, stop, drops, and_then, or_else}
+use Rattle.primitive.specs.Answer.{Answer, matched, none}
 use Rattle.primitive.specs.Text.{lower, lowered, bytes}
 use Rattle.primitive.specs.Primitive.{space, colon}
 use Rattle.primitive.proofs.Fronts.{tag_first, tag_else}
