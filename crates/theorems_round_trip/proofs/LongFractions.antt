@@ -2,7 +2,7 @@
 -- loses a digit, at the end of the item before. All others are answered as the Rust reads them. Assumes nothing.
 use borrow.Author.Tests.{leb-true, le-leb}
 use native.Mathlib.Omega.{arith}
-use Prim.Native.Nat.{ℕ, ◌≤◌}
+use Prim.Native.Nat.{ℕ}
 use mathlib.Core.Path.{◌≡◌, refl, ap}
 use mathlib.Core.List.{List, []}
 use mathlib.Core.Bool.{Bool, true, false, cond}
@@ -14,7 +14,7 @@ use Rattle.answers.specs.Placed.{Placed, fine, refusal, placed, number_of, place
 use Rattle.extended.specs.declared.ExtendedDateTime.{ExtendedDateTime}
 use Rattle.primitive.specs.Text.{lowered}
 use Rattle.items.specs.Items.{Parsed, parse_items}
-use Rattle.theorems_forms.specs.Fractions.{Drops}
+use Rattle.theorems_round_trip.specs.Promises.{Admitted, LosesAt}
 use Rattle.theorems_forms.proofs.DroppedItems.{Refused, drops_refused, refused_drops}
 use Rattle.builder.specs.Building.{build}
 use Rattle.text_general.specs.Reading.{ascii_end, items_of, build_parsed, read_parsed, read_text, rust_text}
@@ -25,16 +25,6 @@ use Rattle.host_calls.specs.Given.{record_numbers}
 use Rattle.host_calls.specs.Calls.{answer, ReadText}
 use Rattle.theorems_round_trip.proofs.Refusals.{Numbered, given, not_in, not_among, test_numbered}
 use Rattle.theorems_round_trip.proofs.BuildRefusals.{build_among}
-
--- The base is accepted, and the text has at most 4096 bytes, each below 128: what is tested before any item is read.
-pub record Admitted (text : List ℕ) (base : ExtendedDateTime) : Type 0 where
-  pub accepted_base : test base ≡ accepted tt
-  pub short : length (lowered text) ≤ 4096
-  pub ascii : length (lowered text) ≤ ascii_end (lowered text)
-
--- As the Rust reads the text, an item at p loses a digit, after fewer than 64 items that lose none.
-abbrev pub LosesAt : List ℕ → ℕ → Type 0
-LosesAt text p = Drops (lowered text) 64 0 p
 
 -- ---- the items
 
