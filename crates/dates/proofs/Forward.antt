@@ -19,7 +19,7 @@ pub year_str_forward : Forward year_str
 unfolding year_str
 year_str_forward = spaced_forward dec_uint_str dec_uint_str_forward
 
-with_year_forward : (w : List ℕ) (m d : ℕ) → Forward (with_year w m d)
+pub with_year_forward : (w : List ℕ) (m d : ℕ) → Forward (with_year w m d)
 unfolding with_year
 with_year_forward w m d = then_forward (year_from_str w) _ (year_from_str_forward w) (λ y. verify_forward (exists y m d) (date_of (Some y) m d))
 
@@ -45,27 +45,27 @@ ended_forward : Forward ended
 unfolding ended
 ended_forward = then_forward _ _ year_str_forward (λ w. next_forward _ _ blank_or_end_forward (pure_forward (written w)))
 
-dated_behind_forward : (p : Reader (Unit {0})) → Forward p → (m d : ℕ) → Forward (dated_behind p m d)
+pub dated_behind_forward : (p : Reader (Unit {0})) → Forward p → (m d : ℕ) → Forward (dated_behind p m d)
 unfolding dated_behind ended_year
 dated_behind_forward p h m d = then_forward _ _ (optional_forward unwritten _ (next_forward p ended h ended_forward)) (dated_forward m d)
 
-hyphen_forward : Forward hyphen
+pub hyphen_forward : Forward hyphen
 unfolding hyphen
 hyphen_forward = optional_forward tt _ (spaced_forward _ (tag_forward _))
 
-comma_forward : Forward comma
+pub comma_forward : Forward comma
 unfolding comma
 comma_forward = optional_forward tt _ (spaced_forward _ (next_forward _ _ (tag_forward _) (value_forward tt multispace1 multispace1_forward)))
 
-nothing_forward : Forward nothing
+pub nothing_forward : Forward nothing
 unfolding nothing
 nothing_forward = pure_forward tt
 
 -- a number of one byte behind space, and a byte behind space
-small : Forward (spaced (dec_uint 255))
+pub small : Forward (spaced (dec_uint 255))
 small = spaced_forward _ (dec_uint_forward 255)
 
-mark : (b : ℕ) → Forward (spaced (byte b))
+pub mark : (b : ℕ) → Forward (spaced (byte b))
 mark b = spaced_forward _ (tag_forward _)
 
 pub dotted_forward : Forward dotted
@@ -80,7 +80,7 @@ iso1_forward =
     then_forward _ _ year_str_forward
     (λ w. next_forward _ _ (mark 45) (then_forward _ _ small (λ m. next_forward _ _ (mark 45) (then_forward _ _ small (λ d. with_year_forward w m d)))))
 
-five_digits_forward : (w : List ℕ) → Forward (five_digits w)
+pub five_digits_forward : (w : List ℕ) → Forward (five_digits w)
 unfolding five_digits
 five_digits_forward w = verify_forward (leb 5 (length w)) tt
 
@@ -91,14 +91,14 @@ iso2_forward =
     (λ w. next_forward _ _ (five_digits_forward w)
     (then_forward _ _ (parse_uint_forward 255 _) (λ m. then_forward _ _ (parse_uint_forward 255 _) (λ d. with_year_forward _ m d))))
 
-us_date_forward : (w : List ℕ) (n : ℕ) (v : WrittenYear) → Forward (us_date w n v)
+pub us_date_forward : (w : List ℕ) (n : ℕ) (v : WrittenYear) → Forward (us_date w n v)
 unfolding us_date
 us_date_forward w n (written v) =
     if_forward (leb 4 (length w)) _ _ (then_forward _ _ (parse_uint_forward 255 v) (λ d. with_year_forward w n d))
     (then_forward _ _ (parse_uint_forward 255 w) (λ m. with_year_forward v m n))
 us_date_forward w n unwritten = then_forward _ _ (parse_uint_forward 255 w) (λ m. without_year_forward m n)
 
-slash_part_forward : Forward slash_part
+pub slash_part_forward : Forward slash_part
 unfolding slash_part
 slash_part_forward = optional_forward unwritten _ (next_forward _ _ (mark 47) (then_forward _ _ year_str_forward (λ v. pure_forward (written v))))
 

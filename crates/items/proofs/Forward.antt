@@ -45,7 +45,7 @@ pub parse_time_after_date_forward : (d : Date) → Forward (parse_time_after_dat
 unfolding parse_time_after_date
 parse_time_after_date_forward d = next_forward _ _ separator_forward (then_forward _ _ combined_time_forward (λ t. pure_forward _))
 
-dated_item_forward : (d : Date) → Forward (dated_item d)
+pub dated_item_forward : (d : Date) → Forward (dated_item d)
 unfolding dated_item date_time_item
 dated_item_forward d = or_forward _ _ (then_forward _ _ (parse_time_after_date_forward d) (λ v. pure_forward _)) (pure_forward _)
 

@@ -12,7 +12,7 @@ use Rattle.times.specs.Time.{below, hour24, hour12, minute, second, optional_sec
 
 -- ---- combinators
 
-certain_forward : {A : Type 0} (t : Bool) (v : A) → Forward (certain t v)
+pub certain_forward : {A : Type 0} (t : Bool) (v : A) → Forward (certain t v)
 certain_forward t v text at = if_ends text at t _ _ (pure_forward v text at) (stop_ends text at)
 
 pub unless_forward : {A B : Type 0} (p : Reader A) (q : Reader B) → Forward q → Forward (unless p q)
