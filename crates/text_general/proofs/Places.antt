@@ -62,27 +62,28 @@ ascii_low : (l : List ℕ) → ascii_end l ≤ length l
 unfolding ascii_end past
 ascii_low l = omega (arith, run_le ascii l)
 
-text_place : (text : List ℕ) (base : ExtendedDateTime) → length text ≤ 4096 → place_of (build_parsed (parse_items text) base) ≤ 4096
+build_parsed_place : (text : List ℕ) (base : ExtendedDateTime) (k : ℕ) → length text ≤ k → length (parse_items text).items ≤ k → place_of (build_parsed (parse_items text) base) ≤ k
 unfolding build_parsed items_of
-text_place text base h = go (parse_items text) (items_end text)
+build_parsed_place text base k h few = go (parse_items text) (items_end text).within few
   where
-    go : (p : Parsed) → Ends text 64 p → place_of (cond (eqb p.number 0) (fine p.items) (refusal p.number p.place) >>= (λ xs. build [] xs base)) ≤ 4096
-    go p e = by (eqb p.number 0)
+    go : (p : Parsed) → p.place ≤ length text → length p.items ≤ k → place_of (cond (eqb p.number 0) (fine p.items) (refusal p.number p.place) >>= (λ xs. build [] xs base)) ≤ k
+    go p end f = by (eqb p.number 0)
       where
-        by : (t : Bool) → place_of (cond t (fine p.items) (refusal p.number p.place) >>= (λ xs. build [] xs base)) ≤ 4096
-        by true = omega (arith, e.few, build_place [] p.items base)
-        by false = omega (arith, e.within)
+        by : (t : Bool) → place_of (cond t (fine p.items) (refusal p.number p.place) >>= (λ xs. build [] xs base)) ≤ k
+        by true = omega (arith, f, build_place [] p.items base)
+        by false = omega (arith, h, end)
 
-read_place : (text : List ℕ) (base : ExtendedDateTime) → place_of (read_parsed (parse_items text) text base) ≤ 4096
+-- The place of a refusal is at most k, if the number of items is, and the length of a text that is not refused for its length.
+pub read_parsed_place : (text : List ℕ) (base : ExtendedDateTime) (k : ℕ) → (length text ≤ 4096 → length text ≤ k) → length (parse_items text).items ≤ k → place_of (read_parsed (parse_items text) text base) ≤ k
 unfolding read_parsed
-read_place text base = first_step (placed 0 (test base)) _ 4096 (omega (arith, at_place 0 (test base))) (by (leb (length text) 4096) refl)
+read_parsed_place text base k long few = first_step (placed 0 (test base)) _ k (omega (arith, at_place 0 (test base))) (by (leb (length text) 4096) refl)
   where
-    by : (t : Bool) → leb (length text) 4096 ≡ t → place_of (placed 0 (check t 1) >> (placed (ascii_end text) (check (leb (length text) (ascii_end text)) 2) >> build_parsed (parse_items text) base)) ≤ 4096
+    by : (t : Bool) → leb (length text) 4096 ≡ t → place_of (placed 0 (check t 1) >> (placed (ascii_end text) (check (leb (length text) (ascii_end text)) 2) >> build_parsed (parse_items text) base)) ≤ k
     by true e =
-        let h = leb-true (length text) 4096 e in
-        first_step (placed (ascii_end text) (check (leb (length text) (ascii_end text)) 2)) _ 4096 (omega (arith, at_place (ascii_end text) (check (leb (length text) (ascii_end text)) 2), ascii_low text)) (text_place text base h)
+        let h = long (leb-true (length text) 4096 e) in
+        first_step (placed (ascii_end text) (check (leb (length text) (ascii_end text)) 2)) _ k (omega (arith, at_place (ascii_end text) (check (leb (length text) (ascii_end text)) 2), ascii_low text)) (build_parsed_place text base k h few)
     by false e = omega arith
 
 pub place_within : (text : List ℕ) (base : ExtendedDateTime) → place_of (read_text text base) ≤ 4096
 unfolding read_text
-place_within text base = read_place (lowered text) base
+place_within text base = read_parsed_place (lowered text) base 4096 (λ h. h) (omega (arith, (items_end (lowered text)).few))
