@@ -1,4 +1,5 @@
--- The laws of the crate `theorems_forms`: which items lose a digit of a fraction, and examples of each written form.
+-- The laws of the crate `theorems_forms`: which items lose a digit of a fraction, that each item is at least a byte, and examples of
+-- each written form.
 pub mod Examples
 pub mod Premises
 pub mod Undropped
@@ -9,3 +10,4 @@ pub mod RelativeFractions
 pub mod Losses
 pub mod DroppedItems
 pub mod LossExamples
+pub mod Strict
