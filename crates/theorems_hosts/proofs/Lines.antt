@@ -1,6 +1,5 @@
 -- The line program never prints 20, nor 19: its base is read under the epoch, whose offset is 0, so every offset after it is one of whole
 -- minutes, and 41 bytes are lent for each text. Assumes nothing.
-use native.Mathlib.Omega.{arith}
 use Prim.Native.Nat.{ℕ}
 use mathlib.Core.Path.{◌≡◌, refl}
 use mathlib.Core.Bool.{true}

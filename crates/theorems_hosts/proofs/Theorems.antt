@@ -1,14 +1,14 @@
 -- Every call of the library, for all arguments: number 0, place 0 and an accepted record, or one refusal with a number that this call can give,
 -- a place within its bounds and the blank record. Read this file with host_calls/specs/Calls and Given. Assumes nothing.
 use native.Mathlib.Omega.{arith}
-use Prim.Native.Nat.{ℕ, ◌+◌, ◌-◌, ◌<◌, ◌≤◌}
+use Prim.Native.Nat.{ℕ, ◌+◌, ◌-◌, ◌≤◌}
 use mathlib.Core.Path.{◌≡◌, refl, ap}
-use mathlib.Core.List.{List, [], ◌∷◌}
+use mathlib.Core.List.{List, []}
 use lib.ListN.{length}
 use lib.Dec.{leb}
 use Rattle.builder.specs.Building.{build}
 use Rattle.items.specs.declared.Item.{Item}
-use mathlib.Core.Bool.{true, false}
+use mathlib.Core.Bool.{true}
 use Rattle.answers.specs.Outcome.{Outcome, accepted, refused, check}
 use Rattle.answers.specs.Outcome as outcome
 use Rattle.answers.proofs.Outcomes.{first_passed, same}
@@ -29,6 +29,7 @@ use Rattle.packet.specs.Packet.{count, header, digits, items_from, build_items, 
 use Rattle.items.specs.Items.{parse_items}
 use Rattle.primitive.specs.Text.{lowered}
 use Rattle.text_general.specs.Reading.{ascii_end, items_of, build_parsed, read_parsed, read_text}
+use Rattle.theorems_hosts.proofs.Places.{text_place}
 use Rattle.theorems_packets.proofs.Refusals.{packet_among}
 use Rattle.theorems_round_trip.proofs.TextRefusals.{text_among}
 use Rattle.theorems_round_trip.proofs.Refusals.{Numbered, value, by_number, next, wider, steps, test_numbered, Among, a_value, a_refusal, accept_numbered, from_unix_seconds_numbered, add_seconds_numbered, add_units_numbered, add_years_numbered, add_months_numbered}
@@ -117,7 +118,7 @@ one_answer (AddMinutes r n) = of_outcome sum_numbers 0 (add_minutes r n) (add_un
 one_answer (AddSeconds r n k) = of_outcome sum_numbers 0 (add_seconds r n k) (add_seconds_numbered r n k) (seconds_good Any r tt n k)
 one_answer (AddYears r n) = of_outcome sum_numbers 0 (add_years r n) (add_years_numbered r n) (years_good Any r tt n)
 one_answer (AddMonths r n) = of_outcome sum_numbers 0 (add_months r n) (add_months_numbered r n) (months_good Any r tt n)
-one_answer (ReadText text base) = of_placed text_numbers (length text) (read_text text base) (text_among text base) ? (text_accepted text base)
+one_answer (ReadText text base) = of_placed text_numbers (length text) (read_text text base) (text_among text base) (text_place text base) (text_accepted text base)
 one_answer (ReadPacket packet base) = of_placed packet_numbers 64 (read_packet packet base) (packet_among packet base) (place_within packet base) (packet_accepted packet base)
 
 -- ---- a moment, a number, a text
