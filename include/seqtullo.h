@@ -19,6 +19,9 @@
 extern "C" {
 #endif
 
+/* The release of this header and of the library beside it: CHANGELOG.md. */
+#define SEQTULLO_VERSION "2.1.0"
+
 /* The answers by number. */
 enum {
     SEQTULLO_OVERSIZE = 1,    /* a text over 4096 bytes, a 65th item, or a packet's item count above 64 */
@@ -45,7 +48,8 @@ enum {
     SEQTULLO_FRACTION = 22    /* the fraction of a text's item has a digit other than 0 after the ninth; place: where the item before ended */
 };
 
-/* A date and time at an offset, in seconds east of UTC. */
+/* A date and time at an offset, in seconds east of UTC. Compare two records field by field: there are bytes between the fields, and memcmp
+   would read them. */
 struct seqtullo_record {
     uint32_t year;
     uint8_t month;
@@ -80,26 +84,49 @@ struct seqtullo_written {
     uint32_t length;
 };
 
-/* The longest text of a record. */
+/* The most bytes of a text, the most items of a text or a packet, and the longest text of a record. */
+#define SEQTULLO_MAX_TEXT 4096
+#define SEQTULLO_MAX_ITEMS 64
 #define SEQTULLO_TEXT 41
 
 /* An upper bound on the stack that a call uses, in bytes: measured by compare/stack, not proved. */
 #define SEQTULLO_STACK 114688
 
-/* Reads a text under a base: what the text leaves out is the base's. A fraction of a second may have any number of digits, but those after
-   the ninth must be 0. */
+/* Reads a text under a base: docs/TEXTS.md. A date alone is midnight of that day; a time alone is of the base's day, with second and
+   nanosecond 0 where it gives none; a relative item alone moves the base and keeps its clock; a text without an item is the base. The offset is
+   the base's where the text has none. A fraction of a second may have any number of digits, but those after the ninth must be 0. */
 struct seqtullo_answer seqtullo_read_text(const uint8_t *text, size_t text_length, struct seqtullo_record base);
 
-/* Reads a packet under a base: items that arrive already split, little-endian. Header: item count, place of the items (8), digit count, place
-   of the digits (8 + 28 * items), two bytes each. Item, 28 bytes: 0 kind (1 date, 2 time, 3 both, 4 weekday, 5 zone, 6 local zone, 7 relative,
-   8 pure), 1 weekday from Monday 0 or unit 1 years to 6 seconds, 2 month, 3 day, 4-7 year, 8 hour, 9 minute, 10 second, 11 flags (1 year given,
-   2 time offset given, 4 offset negative), 12-15 nanosecond, 16 offset hours, 17 offset minutes, 18-19 digits of a pure number, 20-27 signed
-   amount; what the kind does not use is 0. Then the digits of the pure numbers, in order, to the end. */
+/* A packet's item: its kind, the unit of a relative item, and the bits of its flags. */
+#define SEQTULLO_KIND_DATE 1
+#define SEQTULLO_KIND_TIME 2
+#define SEQTULLO_KIND_DATE_TIME 3
+#define SEQTULLO_KIND_WEEKDAY 4
+#define SEQTULLO_KIND_OFFSET 5     /* a zone */
+#define SEQTULLO_KIND_LOCAL_ZONE 6 /* a zone: the base's offset */
+#define SEQTULLO_KIND_RELATIVE 7
+#define SEQTULLO_KIND_PURE 8
+#define SEQTULLO_UNIT_YEARS 1
+#define SEQTULLO_UNIT_MONTHS 2
+#define SEQTULLO_UNIT_DAYS 3
+#define SEQTULLO_UNIT_HOURS 4
+#define SEQTULLO_UNIT_MINUTES 5
+#define SEQTULLO_UNIT_SECONDS 6
+#define SEQTULLO_FLAG_YEAR 1   /* the date has a year */
+#define SEQTULLO_FLAG_OFFSET 2 /* the time has an offset */
+#define SEQTULLO_FLAG_WEST 4   /* the offset is west of UTC */
+
+/* Reads a packet under a base: items that arrive already split, little-endian. docs/PACKET.md has each kind's fields and ranges. Header: item
+   count, place of the items (8), digit count, place of the digits (8 + 28 * items), two bytes each. Item, 28 bytes: 0 kind, 1 weekday from
+   Monday 0 or unit, 2 month, 3 day, 4-7 year, 8 hour, 9 minute, 10 second, 11 flags, 12-15 nanosecond, 16 offset hours, 17 offset minutes,
+   18-19 digits of a pure number, 20-27 signed amount; what the kind does not use is 0. Then the digits of the pure numbers, in order, to the
+   end. */
 struct seqtullo_answer seqtullo_read_packet(const uint8_t *packet, size_t packet_length, struct seqtullo_record base);
 
 /* Writes the record's text, as `2024-03-13 09:30:00.000000000+00:00`, to the front of `out`: 35 to 41 bytes; those after it stay. Read under
    any accepted base, the text gives the record again. With ` +N seconds` or ` -N seconds` after it, N at most 9223372036854775807, it gives
-   the record N seconds later or earlier, and is refused exactly where there is none. */
+   the record N seconds later or earlier, and is refused exactly where there is none. An offset with odd seconds can't be written (20); under a
+   base with such an offset, records that take it over have it too. */
 struct seqtullo_written seqtullo_write(struct seqtullo_record record, uint8_t *out, size_t out_length);
 
 /* The record of eight numbers, if each is in range. */
@@ -115,7 +142,8 @@ struct seqtullo_answer seqtullo_add_days(struct seqtullo_record record, int64_t 
 struct seqtullo_answer seqtullo_add_hours(struct seqtullo_record record, int64_t hours);
 struct seqtullo_answer seqtullo_add_minutes(struct seqtullo_record record, int64_t minutes);
 
-/* Seconds, and nanoseconds on top: at most one second is carried out of the nanoseconds. */
+/* Seconds, and nanoseconds on top: at most 1999999999 less the record's own, since no more than one second is carried out of them; else 16, or
+   18 where the sum of the nanoseconds leaves a u32. */
 struct seqtullo_answer seqtullo_add_seconds(struct seqtullo_record record, int64_t seconds, uint32_t nanoseconds);
 
 /* The same day of another year or month. Where that has no such day: its last day, and the days that were cut off are added. */
