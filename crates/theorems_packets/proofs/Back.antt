@@ -26,6 +26,7 @@ use Rattle.primitive.proofs.Rows.{halves}
 use Rattle.packet_fields.specs.Fields.{from_twos_complement, twos_complement, small, year_of, date_of, time_offset_of, time_of, day_of, weekday_of, unit_of, relative_of, item_of, in_range, with_date, with_time, of_zone, of_relative, of_pure, counted, fields_of, same, fitting, unpacked}
 use Rattle.packet_fields.specs.declared.Fields.{Fields}
 use Rattle.theorems_packets.specs.Writing.{amount, amounts}
+use Rattle.theorems_packets.specs.Packets.{placed}
 
 -- ---- amounts
 
@@ -130,17 +131,6 @@ local_item used = refl
 pure_item : (p : Pure) (used : ℕ) → p.start ≡ used → item_of (of_pure p) used ≡ accepted (item.Pure p)
 unfolding item_of
 pure_item p used s = rw (← s) refl
-
--- a pure number's digits begin behind those that are used
-unfoldable pub placed : ℕ → Item → Type 0
-placed used (item.Pure p) = p.start ≡ used
-placed used (item.Date d) = Unit {0}
-placed used (item.Time t) = Unit {0}
-placed used (item.DateTime v) = Unit {0}
-placed used (item.Weekday w) = Unit {0}
-placed used (item.Offset o) = Unit {0}
-placed used item.LocalZone = Unit {0}
-placed used (item.Relative r) = Unit {0}
 
 item_back : (x : Item) (used : ℕ) → amounts x ≡ true → placed used x → item_of (fields_of x) used ≡ accepted x
 unfolding fields_of amounts placed

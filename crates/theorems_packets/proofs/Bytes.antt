@@ -7,6 +7,7 @@ use lib.ListN.{get_or, drop}
 use Rattle.packet_fields.specs.Fields.{little, fields_from}
 use Rattle.packet_fields.specs.declared.Fields.{Fields}
 use Rattle.theorems_packets.specs.Writing.{number, fields}
+use Rattle.theorems_packets.specs.Packets.{Held}
 
 -- ---- numbers
 
@@ -55,13 +56,6 @@ held_8 v h =
     let d = lower (v / 256 / 256 / 256) 4294967296 (omega arith) in held_4 (v / 256 / 256 / 256 / 256) d
 
 -- ---- fields
-
--- each number is held by its bytes
-pub record Held (f : Fields) : Type 0 where
-  pub year : f.year < 4294967296
-  pub nanosecond : f.nanosecond < 4294967296
-  pub length : f.length < 65536
-  pub amount : f.amount < 18446744073709551616
 
 pub fields_read : (f : Fields) (l : List ℕ) (at : ℕ) (t : List ℕ) → Held f → drop at l ≡ fields f t → (fields_from l at ≡ f) × (drop (at + 28) l ≡ t)
 unfolding fields fields_from

@@ -2,6 +2,7 @@
 pub mod Bytes
 pub mod Back
 pub mod Theorems
+pub mod Unpacked
 pub mod Exact
 pub mod Gives
 pub mod Ranges

@@ -1,7 +1,7 @@
 -- One reader: a text and the packet of its items give one answer. Assumes nothing.
 use mathlib.Core.Path.{◌≡◌, refl, sym, ◌∙◌}
 use mathlib.Core.List.{List, []}
-use Prim.Native.Nat.{ℕ, ◌≤◌}
+use Prim.Native.Nat.{ℕ}
 use lib.ListN.{length}
 use borrow.Author.Tests.{le-leb, eq-eqb}
 use Rattle.extended.specs.Extended.{test}
@@ -14,14 +14,9 @@ use Rattle.packet.specs.Packet.{read_packet}
 use Rattle.text_general.specs.Reading.{ascii_end, items_of, build_parsed, read_parsed, read_text}
 use Rattle.text_general.proofs.Places.{items_end}
 use Rattle.theorems_packets.specs.Writing.{packet}
+use Rattle.theorems_packets.specs.Packets.{Readable}
 use Rattle.theorems_packets.proofs.Theorems.{packet_builds}
 use Rattle.theorems_packets.proofs.Ranges.{text_items}
-
--- a text of the domain (0 to 4096 bytes, each below 128) whose items are read
-pub record Readable (s : List ℕ) : Type 0 where
-  pub long : length (lowered s) ≤ 4096
-  pub ascii : length (lowered s) ≤ ascii_end (lowered s)
-  pub read : (parse_items (lowered s)).number ≡ 0
 
 read_builds : (s : List ℕ) (base : ExtendedDateTime) → Readable s → read_text s base ≡ (placed 0 (test base) >> build [] (parse_items (lowered s)).items base)
 unfolding read_text read_parsed build_parsed items_of

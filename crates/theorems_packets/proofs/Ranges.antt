@@ -40,9 +40,8 @@ use Rattle.items.specs.declared.Item.{Item}
 use Rattle.items.specs.declared.Item.TheVariants as item
 use Rattle.packet_fields.specs.Fields.{twos_complement, date_in_range, offset_in_range, time_in_range, in_range, year_field, with_date, with_time, counted, of_relative, fields_of, digits_used}
 use Rattle.theorems_packets.specs.Writing.{amount, amounts}
-use Rattle.theorems_packets.proofs.Bytes.{Held}
-use Rattle.theorems_packets.proofs.Back.{wide, placed}
-use Rattle.theorems_packets.proofs.Theorems.{Holds, InOrder}
+use Rattle.theorems_packets.specs.Packets.{Held, placed, Holds, InOrder}
+use Rattle.theorems_packets.proofs.Back.{wide}
 
 -- ---- dates
 

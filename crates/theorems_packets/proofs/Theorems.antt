@@ -2,13 +2,13 @@
 use native.Mathlib.Omega.{arith}
 use Prim.Native.Nat.{ℕ, zero, suc, ◌+◌, ◌*◌, ◌/◌, ◌≤◌}
 use native.Mathlib.Nat.{zero-add}
-use mathlib.Core.Path.{◌≡◌, refl, sym}
+use mathlib.Core.Path.{◌≡◌, refl, sym, ap, ◌∙◌}
 use mathlib.Core.Bool.{Bool, true}
 use mathlib.Core.List.{List, [], ◌∷◌}
 use lib.Dec.{leb}
 use lib.ListN.{length, drop, length-drop}
 use borrow.Author.Tests.{le-leb, lt-leb, leb-true, eq-eqb}
-use Rattle.answers.specs.Outcome.{accepted}
+use Rattle.answers.specs.Outcome.{Outcome, accepted, refused}
 use Rattle.extended.specs.Extended.{test}
 use Rattle.extended.specs.declared.ExtendedDateTime.{ExtendedDateTime}
 use Rattle.primitive.specs.Text.{lower, lowered, digit, past}
@@ -16,26 +16,15 @@ use Rattle.primitive.proofs.Rows.{all, halves, run_all}
 use Rattle.items.specs.declared.Item.{Item}
 use Rattle.items.specs.declared.Item.TheVariants as item
 use Rattle.answers.specs.Placed as placing
-use Rattle.answers.specs.Placed.{fine, ◌>>◌}
+use Rattle.answers.specs.Placed.{Placed, fine, ◌>>=◌, ◌>>◌}
 use Rattle.builder.specs.Building.{build}
 use Rattle.packet_fields.specs.Fields.{little, fields_of, pure_in_range, in_range, digits_used}
 use Rattle.packet_fields.specs.declared.Fields.{Fields}
 use Rattle.packet.specs.Packet.{count, digits_place, header, digits, digits_stand, item_at, items_from, packet_items, build_items, read_packet}
-use Rattle.theorems_packets.specs.Writing.{number, fields, items, packet, amounts}
-use Rattle.theorems_packets.proofs.Bytes.{many, held_2, Held, fields_read}
-use Rattle.theorems_packets.proofs.Back.{placed, unpacked_back}
-
--- an item that a packet can hold behind so many digits that are used
-pub record Holds (used : ℕ) (x : Item) : Type 0 where
-  pub range : in_range x ≡ true
-  pub sums : amounts x ≡ true
-  pub fits : Held (fields_of x)
-  pub begins : placed used x
-
--- items that use up so many digits, in order
-unfoldable pub InOrder : ℕ → ℕ → List Item → Type 0
-InOrder all used [] = used ≡ all
-InOrder all used (x ∷ xs) = Holds used x × (used + digits_used x ≤ all) × InOrder all (used + digits_used x) xs
+use Rattle.theorems_packets.specs.Writing.{number, fields, items, packet}
+use Rattle.theorems_packets.specs.Packets.{Holds, InOrder}
+use Rattle.theorems_packets.proofs.Bytes.{many, held_2, fields_read}
+use Rattle.theorems_packets.proofs.Back.{unpacked_back}
 
 -- ---- digits
 
@@ -48,11 +37,11 @@ stand : (area : List ℕ) (used n : ℕ) → all digit area ≡ true → used + 
 unfolding digits_stand past
 stand area used n h k = le-leb (used + n) _ (omega (arith, run_all digit (drop used area) (all_behind digit used area h), length-drop used area))
 
-digit_lower : (b : ℕ) → digit b ≡ true → lower b ≡ b
+pub digit_lower : (b : ℕ) → digit b ≡ true → lower b ≡ b
 unfolding digit lower
 digit_lower b h = let k = leb-true b 57 (halves (leb 48 b) (leb b 57) h).1 in rw (lt-leb 65 b (omega arith))
 
-digits_lower : (l : List ℕ) → all digit l ≡ true → lowered l ≡ l
+pub digits_lower : (l : List ℕ) → all digit l ≡ true → lowered l ≡ l
 unfolding lowered
 digits_lower [] h = refl
 digits_lower (b ∷ l) h = let t = halves (digit b) (all digit l) h in rw (digit_lower b t.0, digits_lower l t.1) refl
@@ -120,6 +109,15 @@ behind_items bytes area n (x ∷ xs) i used g e =
     let t : i + suc (length xs) ≡ suc i + length xs = omega arith in
     rw t (behind_items bytes area n xs (suc i) (used + digits_used x) g.2 (rw s r.1))
 
+steps_joined : (o : Outcome (Unit {0})) (p : Placed (List Item)) (f : List Item → Placed ExtendedDateTime) → (placing.placed 0 o >> (p >>= f)) ≡ (placing.placed 0 o >> p >>= f)
+steps_joined (accepted tt) p f = refl
+steps_joined (refused n) p f = refl
+
+-- A packet is read in three steps: the base is tested, the items are read, and the record is built of them.
+pub packet_steps : (l : List ℕ) (base : ExtendedDateTime) → read_packet l base ≡ (placing.placed 0 (test base) >> (packet_items l >>= (λ xs. build (digits l) xs base)))
+unfolding read_packet packet_items build_items
+packet_steps l base = ap (λ (q : Placed ExtendedDateTime). placing.placed 0 (test base) >> q) (steps_joined (header l) (items_from l (digits l) (count l) 0 0) (λ xs. build (digits l) xs base))
+
 module _ (xs : List Item) (area : List ℕ) (few : length xs ≤ 64) (row : all digit area ≡ true) (order : InOrder (length area) 0 xs) where
   abbrev l : List ℕ
   l = packet xs area
@@ -171,5 +169,4 @@ module _ (xs : List Item) (area : List ℕ) (few : length xs ≤ 64) (row : all 
 
   -- and so it builds under every base what the items build, the base being tested first
   pub packet_builds : (base : ExtendedDateTime) → read_packet l base ≡ (placing.placed 0 (test base) >> build area xs base)
-  unfolding read_packet build_items count
-  packet_builds base = rw (good_header, area_is, first.0, all_items l area xs 0 0 row order place_0) refl
+  packet_builds base = packet_steps l base ∙ rw (packet_read, area_is) refl
