@@ -10,7 +10,7 @@ import sys
 
 ROOT = os.path.realpath(os.path.join(os.path.dirname(os.path.abspath(__file__)), '..'))
 PAGE = os.path.join(ROOT, 'docs', 'TEXTS.md')
-BASE = '2024-03-13 09:30 +02:00'
+BASE = '2024-03-13 09:30 -03:00'
 
 HEAD = """# What is read
 
@@ -66,7 +66,7 @@ SECTIONS = [
         ('next year', '`last`, `this`, `next`, `first`, and `third` to `twelfth`'),
         ('hour', 'a unit alone is one'),
         ('2024-01-31 +1 month', 'the day is clamped, and the days that were lost are added'),
-        ('2024-01-31 10:00 +1 day -2 hours', 'from left to right'),
+        ('2024-01-31 10:00 1 day -2 hours', 'from left to right'),
     ]),
     ('Blanks, comments and signs', None, [
         ('   10:00   ', 'blanks are bytes 9 to 13 and 32'),
@@ -78,7 +78,7 @@ SECTIONS = [
         ('2024-03-13T10:00:00Z', '`2024-03-13T10:00:00+00:00`'),
         ('10:00 UTC', '`10:00 +00:00`; zones by their names are not read'),
         ('now', 'an empty text, or `0 days`'),
-        ('tomorrow', '`1 day` keeps the clock; `24:00` is no time'),
+        ('tomorrow', '`1 day`, which keeps the clock'),
         ('monday', 'a packet: weekdays come by packet alone'),
         ('@0', 'a record made with `seqtullo_from_unix_seconds`'),
         ('+2h', '`+2 hours`'),
@@ -88,7 +88,7 @@ SECTIONS = [
         ('2024-03', '`2024-03-01`'),
         ('1430', '`14:30`: pure numbers come by packet alone'),
         ('13:00 pm', '`13:00` or `1:00 pm`'),
-        ('24:00', '`1 day` after a date, or `00:00` of the next'),
+        ('24:00', '`00:00` of the next day'),
         ('10:00 11:00', 'one time'),
         ('10:00 +25:00', 'an offset of at most 24 hours'),
         ('2024-02-30', 'a day that exists'),
@@ -129,8 +129,9 @@ TAIL = """## The numbers
 | 7 rival | never | a time with an offset after a zone |
 | 8 pure | never | a pure number that is no hour and minute |
 | 9 over, 10 under | a year above 2147485547 or below 0, after a shift | the same; 9 for a pure year too |
-| 12 day | a day that the base's year or a shift does not have, as `2/29` under 2023 | the same |
-| 18 sum | a shift out of all years | the same; a weekday too far |
+| 12 day | a day that the base's year does not have, as `2/29` under 2023 | the same, and of a pure year |
+| 16 nanosecond | never | seconds with more nanoseconds than 1999999999 less the clock's |
+| 18 sum | a shift whose seconds no i64 can represent | the same; nanoseconds beyond a u32; a weekday too far |
 | 22 fraction | a digit other than 0 after the ninth of a fraction | never |
 
 A base that is refused gives its own number first: 9, or 11 to 17. 19 and 20 come from writing alone, and 20 only where the base's offset has

@@ -1,3 +1,4 @@
 pub mod Places
 pub mod Theorems
 pub mod Lines
+pub mod Weekdays

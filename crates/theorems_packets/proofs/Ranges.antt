@@ -203,7 +203,7 @@ pub record Plain (x : Item) : Type 0 where
 abbrev GoodRelative : Relative → Type 0
 GoodRelative r = Plain (item.Relative r)
 
-unsigned_low : (z : ℤ) → in_i64 z ≡ true → twos_complement z < 18446744073709551616
+pub unsigned_low : (z : ℤ) → in_i64 z ≡ true → twos_complement z < 18446744073709551616
 unfolding twos_complement
 unsigned_low (pos n) h = omega (arith, ltb-true n 9223372036854775808 h)
 unsigned_low (negsuc n) h = omega arith

@@ -35,6 +35,13 @@ pub use packet::{Clock, Day, PacketBuilder, Unit, Zone};
 use std::error::Error;
 use std::fmt;
 
+/// The release, as in the header and in CHANGELOG.md.
+///
+/// ```
+/// assert_eq!(seqtullo::VERSION.split('.').count(), 3);
+/// ```
+pub const VERSION: &str = env!("CARGO_PKG_VERSION");
+
 /// An upper bound on the stack that a call uses, in bytes: measured, not proved. A thread of 128 KiB starts with it unless its thread-local
 /// variables take more than a few KiB.
 ///
