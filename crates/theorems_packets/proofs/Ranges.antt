@@ -10,7 +10,7 @@ use lib.ListN.{length, take, drop}
 use lib.Seq.{slice}
 use lib.IntN.{ℤ, pos, negsuc, neg_ℤ, nat_abs, ◌*ℤ◌}
 use lib.Signed.{mag}
-use borrow.Author.Tests.{lt-ltb, ltb-true, le-leb, leb-true}
+use borrow.Author.Tests.{lt-ltb, ltb-true, le-leb, leb-true, eqb-false}
 use Rattle.integers.specs.Integers.{in_i32, in_i64}
 use Rattle.primitive.specs.Answer.{Answer, Reader, matched, dropped, none, stop, optional}
 use Rattle.primitive.specs.Text.{byte}
@@ -195,10 +195,11 @@ time_gives =
 
 -- ---- relative items
 
--- an item that a packet holds in front of any digit, and that uses none
+-- an item that a packet holds in front of any digit, and that uses none; its nanoseconds are below a second
 pub record Plain (x : Item) : Type 0 where
   pub holds : Holds 0 x
   pub none_used : digits_used x ≡ 0
+  pub below_second : (fields_of x).nanosecond < 1000000000
 
 abbrev GoodRelative : Relative → Type 0
 GoodRelative r = Plain (item.Relative r)
@@ -217,11 +218,11 @@ module _ (z : ℤ) (h : in_i32 z ≡ true) where
 
   unit_good : {r : Relative} (u : ℕ) → of_relative r ≡ counted 7 u (twos_complement z) 0 → amount r ≡ in_i32 z → GoodRelative r
   unfolding in_range amounts fields_of placed
-  unit_good u e a = record { holds = record { range = refl; sums = rw a h; fits = rw e (held u); begins = tt }; none_used = refl }
+  unit_good u e a = record { holds = record { range = refl; sums = rw a h; fits = rw e (held u); begins = tt }; none_used = refl; below_second = rw e (omega arith) }
 
-some_seconds : (z : ℤ) (k : ℕ) → in_i64 z ≡ true → k < 4294967296 → GoodRelative (relative.Seconds z k)
+some_seconds : (z : ℤ) (k : ℕ) → in_i64 z ≡ true → k < 1000000000 → GoodRelative (relative.Seconds z k)
 unfolding in_range amounts amount fields_of of_relative placed
-some_seconds z k h l = record { holds = record { range = refl; sums = h; fits = counted_held 6 k z h l; begins = tt }; none_used = refl }
+some_seconds z k h l = record { holds = record { range = refl; sums = h; fits = counted_held 6 k z h (omega arith); begins = tt }; none_used = refl; below_second = l }
 
 -- a number and its negative are both an i32's
 abbrev Small : ℤ → Type 0
@@ -287,11 +288,11 @@ below_zero_in (suc n) h = lt-ltb n 9223372036854775808 (omega arith)
 rounded_good : (t : Bool) (v : SecAndNsec ℕ) → ltb v.sec (2 ^ 63) ≡ true → Fraction v → GoodRelative (rounded t v)
 unfolding rounded
 rounded_good false v e h = some_seconds (pos v.sec) v.nsec e (omega arith)
-rounded_good true v e h = go (eqb v.nsec 0)
+rounded_good true v e h = go (eqb v.nsec 0) refl
   where
-    go : (t : Bool) → GoodRelative (cond t (relative.Seconds (signed true v.sec) 0) (relative.Seconds (signed true (v.sec + 1)) (1000000000 - v.nsec)))
-    go true = some_seconds (signed true v.sec) 0 (below_zero_in v.sec (omega (arith, ltb-true v.sec 9223372036854775808 e))) (omega arith)
-    go false = some_seconds (signed true (v.sec + 1)) (1000000000 - v.nsec) (below_zero_in (v.sec + 1) (omega (arith, ltb-true v.sec 9223372036854775808 e))) (omega arith)
+    go : (t : Bool) → eqb v.nsec 0 ≡ t → GoodRelative (cond t (relative.Seconds (signed true v.sec) 0) (relative.Seconds (signed true (v.sec + 1)) (1000000000 - v.nsec)))
+    go true k = some_seconds (signed true v.sec) 0 (below_zero_in v.sec (omega (arith, ltb-true v.sec 9223372036854775808 e))) (omega arith)
+    go false k = some_seconds (signed true (v.sec + 1)) (1000000000 - v.nsec) (below_zero_in (v.sec + 1) (omega (arith, ltb-true v.sec 9223372036854775808 e))) (omega (arith, eqb-false v.nsec 0 k))
 
 relative_gives : Gives GoodRelative relative-parse
 unfolding relative-parse seconds signed_seconds displacement displaced
@@ -310,7 +311,7 @@ unfolding date_in_range
 year_low (Some y) m d h = omega (arith, leb-true y 2147485547 (halves (leb y 2147485547) (exists y m d) h).0)
 year_low None m d h = omega arith
 
-nanosecond_low : (t : Time) → GoodTime t → t.nanosecond < 4294967296
+nanosecond_low : (t : Time) → GoodTime t → t.nanosecond < 1000000000
 unfolding time_in_range
 nanosecond_low t h =
     let a = halves (leb t.hour 23) _ h in
@@ -322,17 +323,19 @@ nanosecond_low t h =
 plain_date : (d : Date) → GoodDate d → Plain (item.Date d)
 unfolding in_range amounts fields_of with_date placed
 plain_date d h =
-    record { holds = record { range = h; sums = refl; fits = record { year = year_low d.year d.month d.day h; nanosecond = omega arith; length = omega arith; amount = omega arith }; begins = tt }; none_used = refl }
+    record { holds = record { range = h; sums = refl; fits = record { year = year_low d.year d.month d.day h; nanosecond = omega arith; length = omega arith; amount = omega arith }; begins = tt }; none_used = refl; below_second = omega arith }
 
 plain_time : (t : Time) → GoodTime t → Plain (item.Time t)
 unfolding in_range amounts fields_of with_time placed
 plain_time t h =
-    record { holds = record { range = h; sums = refl; fits = record { year = omega arith; nanosecond = nanosecond_low t h; length = omega arith; amount = omega arith }; begins = tt }; none_used = refl }
+    let l = nanosecond_low t h in
+    record { holds = record { range = h; sums = refl; fits = record { year = omega arith; nanosecond = omega arith; length = omega arith; amount = omega arith }; begins = tt }; none_used = refl; below_second = l }
 
 plain_both : (d : Date) (t : Time) → GoodDate d → GoodTime t → Plain (item.DateTime (record { date = d; time = t }))
 unfolding in_range amounts fields_of with_time with_date placed
 plain_both d t h k =
-    record { holds = record { range = both h k; sums = refl; fits = record { year = year_low d.year d.month d.day h; nanosecond = nanosecond_low t k; length = omega arith; amount = omega arith }; begins = tt }; none_used = refl }
+    let l = nanosecond_low t k in
+    record { holds = record { range = both h k; sums = refl; fits = record { year = year_low d.year d.month d.day h; nanosecond = omega arith; length = omega arith; amount = omega arith }; begins = tt }; none_used = refl; below_second = l }
 
 abbrev GoodBoth : DateTime → Type 0
 GoodBoth v = Plain (item.DateTime v)
@@ -389,7 +392,11 @@ unfolding InOrder
 in_order [] no_item = refl
 in_order (x ∷ xs) (one_item g gs) = let z : 0 + digits_used x ≡ 0 = omega (arith, g.none_used) in (g.holds, omega arith, rw z (in_order xs gs))
 
+-- Each item of a text is one that a packet holds, and its nanoseconds are below a second.
+pub text_plain : (text : List ℕ) → AllPlain (parse_items text).items
+unfolding parse_items
+text_plain text = items_plain 64 [] text 0 no_item
+
 -- The items of a text are items that a packet without digits holds, in their order.
 pub text_items : (text : List ℕ) → InOrder 0 0 (parse_items text).items
-unfolding parse_items
-text_items text = in_order _ (items_plain 64 [] text 0 no_item)
+text_items text = in_order _ (text_plain text)
