@@ -1,5 +1,5 @@
 -- Which numbers a call can give, and how far its place can be: docs/SCOPE.md, 'Answers by number'. That no call gives another number is proved
--- in theorems_hosts, proofs/Theorems.antt.
+-- in theorems_hosts, proofs/Theorems.antt; proofs/AcceptedBase.antt has the shorter lists of an accepted base.
 use Rattle.answers.specs.Numbers as refusal
 use Rattle.answers.specs.Limits.{most_items}
 use Rattle.std.specs.Prelude.{ℕ, Bool, false, ◌||◌, List, [], ◌∷◌, eqb, length}
@@ -28,6 +28,14 @@ text_numbers = refusal.oversize ∷ refusal.foreign ∷ refusal.unread ∷ refus
 
 abbrev pub packet_numbers : List ℕ
 packet_numbers = refusal.oversize ∷ refusal.packet ∷ refusal.twice ∷ refusal.rival ∷ refusal.pure ∷ sum_numbers
+
+-- a text under an accepted base: 12 for 29 February in a base's year that has none; 9, 10 and 18 for sums
+abbrev pub text_numbers_accepted : List ℕ
+text_numbers_accepted = refusal.oversize ∷ refusal.foreign ∷ refusal.unread ∷ refusal.stopped ∷ refusal.fraction ∷ refusal.twice ∷ refusal.over ∷ refusal.under ∷ refusal.day ∷ refusal.sum ∷ []
+
+-- a packet under an accepted base: 16 too, since the nanosecond of its seconds is any u32; 9 for a pure year as well
+abbrev pub packet_numbers_accepted : List ℕ
+packet_numbers_accepted = refusal.oversize ∷ refusal.packet ∷ refusal.twice ∷ refusal.rival ∷ refusal.pure ∷ refusal.over ∷ refusal.under ∷ refusal.day ∷ refusal.nanosecond ∷ refusal.sum ∷ []
 
 abbrev pub written_numbers : List ℕ
 written_numbers = refusal.short ∷ refusal.seam ∷ record_numbers

@@ -1,3 +1,7 @@
+pub mod AcceptedRecords
+pub mod PartsInRange
+pub mod AcceptedBuilds
+pub mod AcceptedBase
 pub mod Places
 pub mod Theorems
 pub mod Lines

@@ -60,29 +60,29 @@ module _ (l : List ℕ) (b : Bytes l) where
 
 -- ---- what was passed was passed step by step
 
-fine_same : {A : Type 0} {a b : A} → fine a ≡ fine b → a ≡ b
+pub fine_same : {A : Type 0} {a b : A} → fine a ≡ fine b → a ≡ b
 fine_same e = cc
 
-refusal_fine : {A X : Type 0} {n at : ℕ} {a : A} → refusal n at ≡ fine a → X
+pub refusal_fine : {A X : Type 0} {n at : ℕ} {a : A} → refusal n at ≡ fine a → X
 refusal_fine e = let z : ◌≡◌ {A = ℕ} 0 1 = cc in absurd (clash z)
   where
     clash : ◌≡◌ {A = ℕ} 0 1 → ⊥
     clash z = omega arith
 
-placed_fine : {A : Type 0} (at : ℕ) (o : Outcome A) {a : A} → placing.placed at o ≡ fine a → o ≡ accepted a
+pub placed_fine : {A : Type 0} (at : ℕ) (o : Outcome A) {a : A} → placing.placed at o ≡ fine a → o ≡ accepted a
 placed_fine at (accepted b) e = ap accepted (fine_same e)
 placed_fine at (refused n) e = refusal_fine e
 
-first_fine : {A : Type 0} (at : ℕ) (o : Outcome (Unit {0})) (q : Placed A) {a : A} → (placing.placed at o >> q) ≡ fine a → (o ≡ accepted tt) × (q ≡ fine a)
+pub first_fine : {A : Type 0} (at : ℕ) (o : Outcome (Unit {0})) (q : Placed A) {a : A} → (placing.placed at o >> q) ≡ fine a → (o ≡ accepted tt) × (q ≡ fine a)
 first_fine at (accepted tt) q e = (refl, e)
 first_fine at (refused n) q e = refusal_fine e
 
-record Step {A B : Type 0} (p : Placed A) (f : A → Placed B) (b : B) : Type 0 where
-  value : A
-  was : p ≡ fine value
-  then : f value ≡ fine b
+pub record Step {A B : Type 0} (p : Placed A) (f : A → Placed B) (b : B) : Type 0 where
+  pub value : A
+  pub was : p ≡ fine value
+  pub then : f value ≡ fine b
 
-step_fine : {A B : Type 0} (p : Placed A) (f : A → Placed B) {b : B} → (p >>= f) ≡ fine b → Step p f b
+pub step_fine : {A B : Type 0} (p : Placed A) (f : A → Placed B) {b : B} → (p >>= f) ≡ fine b → Step p f b
 step_fine (fine a) f e = record { value = a; was = refl; then = e }
 step_fine (refusal n at) f e = refusal_fine e
 

@@ -70,7 +70,7 @@ build_extended_numbered b rs base =
 -- ---- the rules
 
 -- a second date, time, weekday or zone, a time with an offset after a zone, and the two refusals of a pure number
-abbrev rule_numbers : List ℕ
+abbrev pub rule_numbers : List ℕ
 rule_numbers = 6 ∷ (7 ∷ (8 ∷ (9 ∷ [])))
 
 module _ (digits : List ℕ) (b : DateTimeBuilder) where
@@ -104,7 +104,7 @@ module _ (digits : List ℕ) (b : DateTimeBuilder) where
 abbrev pub build_numbers : List ℕ
 build_numbers = refusal.twice ∷ refusal.rival ∷ refusal.pure ∷ sum_numbers
 
-gather_among : (digits : List ℕ) (i : ℕ) (b : DateTimeBuilder) (xs : List Item) → Among rule_numbers (gather digits i b xs)
+pub gather_among : (digits : List ℕ) (i : ℕ) (b : DateTimeBuilder) (xs : List Item) → Among rule_numbers (gather digits i b xs)
 unfolding gather
 gather_among digits i b [] = a_value b
 gather_among digits i b (x ∷ xs) = go (λ next. gather_among digits (suc i) next xs) (set_item_numbered digits b x)
@@ -162,7 +162,7 @@ text_rule digits b x z (a_date_time v) = by (is_some b.date)
     by true = second
     by false = time_rule (with_date b v.date) v.time z
 
-text_gather : (digits : List ℕ) (i : ℕ) (b : DateTimeBuilder) (xs : List Item) → b.zone ≡ None → AllTexted xs → Among (6 ∷ []) (gather digits i b xs)
+pub text_gather : (digits : List ℕ) (i : ℕ) (b : DateTimeBuilder) (xs : List Item) → b.zone ≡ None → AllTexted xs → Among (6 ∷ []) (gather digits i b xs)
 unfolding gather
 text_gather digits i b [] z a = a_value b
 text_gather digits i b (x ∷ xs) z (an_item t a) = go (λ next e. text_gather digits (suc i) next xs e a) (text_rule digits b x z t)

@@ -49,12 +49,12 @@ one_more [] x no_item t = an_item t no_item
 one_more (y ∷ xs) x (an_item s a) t = an_item s (one_more xs x a t)
 
 -- the numbers that the reading of a text's items ends with where it is refused
-abbrev reading_numbers : List ℕ
+abbrev pub reading_numbers : List ℕ
 reading_numbers = refusal.oversize ∷ (refusal.unread ∷ (refusal.stopped ∷ (refusal.fraction ∷ [])))
 
-record Reading (p : Parsed) : Type 0 where
-  number : has (0 ∷ reading_numbers) p.number ≡ true
-  texted : AllTexted p.items
+pub record Reading (p : Parsed) : Type 0 where
+  pub number : has (0 ∷ reading_numbers) p.number ≡ true
+  pub texted : AllTexted p.items
 
 reading : (room : ℕ) (xs : List Item) (text : List ℕ) (at : ℕ) → AllTexted xs → Reading (items_from parse_item room xs text at)
 unfolding items_from
@@ -76,6 +76,11 @@ reading (suc room) xs text at a = go (λ v n t. reading room (xs ++ (v ∷ [])) 
     go f true stop h = record { number = refl; texted = a }
     go f false p h = record { number = refl; texted = a }
 
+-- The items of a text are read, or refused with one of these numbers.
+pub reading_text : (text : List ℕ) → Reading (parse_items text)
+unfolding parse_items
+reading_text text = reading 64 [] text 0 no_item
+
 parsed_among : (p : Parsed) (base : ExtendedDateTime) → Reading p → Among text_numbers (build_parsed p base)
 unfolding build_parsed items_of
 parsed_among p base h = go (eqb p.number 0) refl
@@ -85,8 +90,7 @@ parsed_among p base h = go (eqb p.number 0) refl
     go false e = a_refusal p.number p.place (has_covers reading_numbers text_numbers p.number refl (rw e at h.number))
 
 items_among : (text : List ℕ) (base : ExtendedDateTime) → Among text_numbers (build_parsed (parse_items text) base)
-unfolding parse_items
-items_among text base = parsed_among (parse_items text) base (reading 64 [] text 0 no_item)
+items_among text base = parsed_among (parse_items text) base (reading_text text)
 
 -- Whatever the text and the base: the answer's number is 0 or one of these.
 pub text_among : (text : List ℕ) (base : ExtendedDateTime) → Among text_numbers (read_text text base)
