@@ -31,7 +31,8 @@ pub fn line_end(bytes: &[u8], from: usize) -> usize
 
 // Moves a line that has not ended to the front, no more of it than decides its answer, and answers how much that is.
 pub fn keep(buffer: &mut [u8], from: usize, end: usize) -> usize
-    ensures { Put (kept buffer.old from end) 0 buffer.old result buffer.new }
+    ensures put { Put (kept buffer.old from end) 0 buffer.old result buffer.new }
+    ensures upper_bound { result ≤ 4097 }
 {
     let Some(line) = buffer.get(from..end) else {
         return 0;

@@ -5,11 +5,11 @@ use mathlib.Core.Path.{◌≡◌}
 use Rattle.line_ends.proofs.Keeping.{kept_none, kept_some}
 use Rattle.line_ends.proofs.keep.Goals as goal
 
-pub returns-in_default : goal.returns-in_default
-returns-in_default c = kept_none c.args.buffer.now c.args.from c.args.end c.in_default.ensures.lookup.0
+pub returns-in_default-clause-put : goal.returns-in_default-clause-put
+returns-in_default-clause-put c = kept_none c.args.buffer.now c.args.from c.args.end c.in_default.ensures.lookup.0
 
-pub returns : goal.returns
-returns c =
+pub returns-clause-put : goal.returns-clause-put
+returns-clause-put c =
     let a = c.args in
     let l = c.in-Some.ensures.lookup.0 in
     let e : c.min-n.result ≡ min (a.end - a.from) 4097 = omega (arith, c.min-n.ensures, l.3) in
