@@ -34,12 +34,12 @@ enum {
     SEQTULLO_PURE = 8,        /* a pure number that is no hour and minute; place: the item's index */
     SEQTULLO_OVER = 9,        /* a year above 2147485547, or a pure year that no u32 can represent */
     SEQTULLO_UNDER = 10,      /* a year below 0, or a computed year that no u32 can represent */
-    SEQTULLO_MONTH = 11,      /* out of range, as the five below */
-    SEQTULLO_DAY = 12,
-    SEQTULLO_HOUR = 13,
-    SEQTULLO_MINUTE = 14,
-    SEQTULLO_SECOND = 15,
-    SEQTULLO_NANOSECOND = 16,
+    SEQTULLO_MONTH = 11,      /* outside 1 to 12 */
+    SEQTULLO_DAY = 12,        /* outside 1 to the month's last */
+    SEQTULLO_HOUR = 13,       /* above 23 */
+    SEQTULLO_MINUTE = 14,     /* above 59 */
+    SEQTULLO_SECOND = 15,     /* above 59 */
+    SEQTULLO_NANOSECOND = 16, /* above 999999999, or too many to add */
     SEQTULLO_OFFSET = 17,     /* more than 86400 seconds either way */
     SEQTULLO_SUM = 18,        /* a sum or product that leaves an i64, nanoseconds that leave a u32, or days to a weekday that leave an i32 */
     SEQTULLO_SHORT = 19,      /* the place to write to is shorter than the text */
@@ -94,8 +94,13 @@ struct seqtullo_written {
 
 /* Reads a text under a base: docs/TEXTS.md. A date alone is midnight of that day; a time alone is of the base's day, with second and
    nanosecond 0 where it gives none; a relative item alone moves the base and keeps its clock; a text without an item is the base. The offset is
-   the base's where the text has none. A fraction of a second may have any number of digits, but those after the ninth must be 0. */
+   the base's where the text has none. After a time, a sign with a number is its offset: put a shift first (docs/TEXTS.md, 'To be careful with').
+   A fraction of a second may have any number of digits, but those after the ninth must be 0. */
 struct seqtullo_answer seqtullo_read_text(const uint8_t *text, size_t text_length, struct seqtullo_record base);
+
+/* The bytes of a packet's header and of an item. */
+#define SEQTULLO_PACKET_HEADER 8
+#define SEQTULLO_PACKET_ITEM 28
 
 /* A packet's item: its kind, the unit of a relative item, and the bits of its flags. */
 #define SEQTULLO_KIND_DATE 1
@@ -113,7 +118,7 @@ struct seqtullo_answer seqtullo_read_text(const uint8_t *text, size_t text_lengt
 #define SEQTULLO_UNIT_MINUTES 5
 #define SEQTULLO_UNIT_SECONDS 6
 #define SEQTULLO_FLAG_YEAR 1   /* the date has a year */
-#define SEQTULLO_FLAG_OFFSET 2 /* the time has an offset */
+#define SEQTULLO_FLAG_OFFSET 2 /* the time has an offset; not of a zone */
 #define SEQTULLO_FLAG_WEST 4   /* the offset is west of UTC */
 
 /* Reads a packet under a base: items that arrive already split, little-endian. docs/PACKET.md has each kind's fields and ranges. Header: item

@@ -14,16 +14,17 @@ BASE = '2024-03-13 09:30 -03:00'
 
 HEAD = """# What is read
 
-Each answer below is the line program's, under the base `%s`, which is a Wednesday. The page is written by
-`tools/texts.py`. Texts are read item by item: dates, times of day with or without an offset, and relative items, in any order, at most one
-date and one time, at most 64 items and 4096 bytes. Upper and lower case are the same.
+Each answer below is the line program's, under the base `%s`, which is a Wednesday; a refusal is its number and place. Texts are read
+item by item: dates, times of day with or without an offset, and relative items, in any order, at most one date and one time, at most 64 items
+and 4096 bytes. Upper and lower case are the same. Between items stand blanks, comments or nothing: no comma, no other sign.
 
 What a text leaves out:
 
-- a date alone is midnight of that day, at the base's offset;
+- a date alone is midnight of that day;
 - a time alone is of the base's day; it sets second and nanosecond too, to 0 where they are not given;
 - a relative item alone moves the base and keeps its clock;
-- a text without any item is the base.
+- a text without any item is the base;
+- the offset is the base's where no time gives one; no clock is converted to a new offset.
 
 """ % BASE
 
@@ -36,13 +37,14 @@ SECTIONS = [
         ('1/31', 'month and day: the base\'s year'),
         ('31.1.2024', 'day, month, year'),
         ('31.1.', 'the base\'s year'),
-        ('31 January 2024', 'a month by its name or its first three letters, with a dot or without; `sept` too'),
+        ('31 January 2024', 'a month by its full name, by its first three letters with or without a dot, or `sept` without one'),
         ('31 jan.', None),
-        ('Jan 31, 2024', 'a blank after the comma'),
+        ('Jan 31 2024', None),
+        ('Jan 31, 2024', 'a blank has to follow the comma'),
         ('31-jan-2024', None),
         ('31jan2024', None),
         ('68-1-31', 'two digits up to 68 are years of 2000'),
-        ('69-1-31', 'from 69 on of 1900'),
+        ('69-1-31', 'from 69 on of 1900; one digit or three are the year as they stand'),
         ('12345-01-31', 'years to 2147485547'),
     ]),
     ('Times and offsets', None, [
@@ -53,17 +55,18 @@ SECTIONS = [
         ('12:30 am', 'half past midnight'),
         ('10:00 +05:30', 'an offset with the time: `+05:30`, `+0530`, `+5`'),
         ('10:00-0800', None),
-        ('20 +2', 'an hour alone needs an offset, am or pm'),
+        ('20 +2', 'an hour alone needs an offset, am or pm; an offset belongs to a time'),
         ('2024-01-31T10:00+00:00', 'date and time with `T`'),
         ('2024-01-31 10:00', 'or with a blank'),
     ]),
     ('Relative items', None, [
         ('+1 month', 'years, months, fortnights, weeks, days, hours, minutes, seconds; `min` and `sec`; with `s` or without'),
-        ('2 weeks ago', None),
+        ('2 weeks ago', '`ago` turns its own item: two weeks back'),
+        ('2 weeks 3 days ago', 'two weeks on, and three days back'),
         ('3 days hence', None),
         ('-90 minutes', None),
         ('1.5 seconds', 'seconds alone may have a fraction'),
-        ('next year', '`last`, `this`, `next`, `first`, and `third` to `twelfth`'),
+        ('next year', '`last` -1, `this` 0, `next` and `first` 1, `third` 3 to `twelfth` 12; `second` is the unit'),
         ('hour', 'a unit alone is one'),
         ('2024-01-31 +1 month', 'the day is clamped, and the days that were lost are added'),
         ('2024-01-31 10:00 1 day -2 hours', 'from left to right'),
@@ -71,14 +74,23 @@ SECTIONS = [
     ('Blanks, comments and signs', None, [
         ('   10:00   ', 'blanks are bytes 9 to 13 and 32'),
         ('10:00 (in the (late) morning)', 'comments are in round parentheses, nested'),
-        ('10:00 -', 'a sign is ignored if no digit follows'),
+        ('10:00 -', 'a sign is ignored if no digit follows, blanks or not'),
         ('()', 'no item'),
     ]),
     ('Look-alikes that are refused', 'what to write instead', [
         ('2024-03-13T10:00:00Z', '`2024-03-13T10:00:00+00:00`'),
         ('10:00 UTC', '`10:00 +00:00`; zones by their names are not read'),
-        ('now', 'an empty text, or `0 days`'),
+        ('now', 'an empty text, or `0 days`; so for `today`'),
         ('tomorrow', '`1 day`, which keeps the clock'),
+        ('noon', '`12:00`'),
+        ('sept. 3', '`sept 3`: no dot after four letters'),
+        ('Jan 31,2024', '`Jan 31, 2024`'),
+        ('31 jan, 2024', '`31 jan 2024`'),
+        ('31/1/2024', '`31.1.2024` or `1/31/2024`'),
+        ('2024-01-31 +02:00', '`2024-01-31 00:00 +02:00`: an offset belongs to a time'),
+        ('10 pm +2', '`22:00 +2`: am or pm, or an offset'),
+        ('10:00, 2 days', '`10:00 2 days`'),
+        ('3000000000 days', 'an amount that an i32 can represent, of seconds an i64; weeks count as 7 days'),
         ('monday', 'a packet: weekdays come by packet alone'),
         ('@0', 'a record made with `seqtullo_from_unix_seconds`'),
         ('+2h', '`+2 hours`'),
@@ -99,13 +111,15 @@ SECTIONS = [
     ]),
 ]
 
-WARNING = """## One to be careful with
+WARNING = """## To be careful with
+
+A sign and a number after a time are the time's offset from UTC. A number after a date that has no year, and is written with dots or with the
+month's name, is its year, unless a colon or a sign makes it something else. **The safe spelling is the shift first, then the date with its
+year, then the time.**
 
 | text | answer | |
 |---|---|---|
 %s
-After a time, a sign with a number is the time's offset from UTC. To say a time and a shift, leave the sign out or put the shift first.
-
 """
 WARNED = [
     ('10:00 +2 hours', '10:00 at offset +02:00, and one hour more: rarely what is meant'),
@@ -114,6 +128,15 @@ WARNED = [
     ('10:00 -1 day', '10:00 at offset -01:00, and one day more'),
     ('10:00 -90 minutes', 'no offset has 90 hours'),
     ('-1 day 10:00', '10:00 of the day before'),
+    ('nov 5 24 hours', '5 November of 2024, and one hour: 24 is the year'),
+    ('nov 5 2 weeks', '5 November of year 2, and one week'),
+    ('31.1. 5 days', '31 January of year 5, and one day'),
+    ('nov 5 10 pm', '5 November of year 10, and `pm` is left unread'),
+    ('2 weeks nov 5', 'two weeks after 5 November'),
+    ('nov 5 22:00', 'a colon: a time'),
+    ('3-5', '3:00 at offset -05:00: write `3/5` for a date'),
+    ('-2 days ago', 'two days on'),
+    ('second month', 'one second and one month'),
 ]
 
 TAIL = """## The numbers
@@ -122,7 +145,7 @@ TAIL = """## The numbers
 |---|---|---|
 | 1 oversize | over 4096 bytes; a 65th item | more than 64 items |
 | 2 foreign | a byte of 128 or more | never |
-| 3 unread | no reader matches: most wrong texts, a month of 13 among them | never |
+| 3 unread | no reader matches: most wrong texts, a month of 13 and an amount that is too large among them | never |
 | 4 stopped | an offset beyond 24 hours; hour 0 with am or pm | never |
 | 5 packet | never | the form of the packet or of an item |
 | 6 twice | a second date or time | a second date, time, weekday or zone, or a zone after a time with an offset |
@@ -131,7 +154,7 @@ TAIL = """## The numbers
 | 9 over, 10 under | a year above 2147485547 or below 0, after a shift | the same; 9 for a pure year too |
 | 12 day | a day that the base's year does not have, as `2/29` under 2023 | the same, and of a pure year |
 | 16 nanosecond | never | seconds with more nanoseconds than 1999999999 less the clock's |
-| 18 sum | a shift whose seconds no i64 can represent | the same; nanoseconds beyond a u32; a weekday too far |
+| 18 sum | a shift by seconds whose sum with the moment leaves an i64 | the same; nanoseconds beyond a u32; a weekday too far |
 | 22 fraction | a digit other than 0 after the ninth of a fraction | never |
 
 A base that is refused gives its own number first: 9, or 11 to 17. 19 and 20 come from writing alone, and 20 only where the base's offset has
@@ -142,12 +165,12 @@ seconds. No answer has number 21.
 | number | what `place` counts | example |
 |---|---|---|
 | 2 | bytes: the index of the first byte of 128 or more | %s |
-| 3, 4, 22 | bytes: where the item before ended, so that blanks after it are not yet passed; 0 without one | %s, %s, %s |
+| 3, 4, 22 | bytes: where the item before ended, 0 without one. Blanks after it are not passed, but those after a year that follows dots or a month's name are the date's | %s, %s, %s, %s |
 | 6, 7, 8 | items from 0: the one that breaks the rule | %s |
 | 5 | items from 0; 0 in the header; the number of items for digits left over | a packet's |
 | all others | 0 | |
 """
-PLACES = ['10:00 \udcc3\udca9', '10:00 tea', '10:00 +25:00', '10:00 1.0000000001 seconds', '10:00 2024-01-31 11:00']
+PLACES = ['10:00 \udcc3\udca9', '10:00 tea', '31 jan 2024   tea', '10:00 +25:00', '10:00 1.0000000001 seconds', '10:00 2024-01-31 11:00']
 
 
 def answers(texts):

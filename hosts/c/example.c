@@ -17,11 +17,12 @@ static void show(const char *what, struct seqtullo_answer a)
 int main(void)
 {
     static const char *const texts[] = {"2024-01-31 +1 month", "10:00 +2 hours", "10:00 sept. 3"};
-    /* One item: the header, then kind 4 (weekday), 0 for Monday, and the amount -1 for the last one. */
-    static const uint8_t last_monday[8 + 28] = {
+    /* One item: the header, then a weekday, 0 for Monday, and the amount -1 for the last one. */
+    static const uint8_t last_monday[SEQTULLO_PACKET_HEADER + SEQTULLO_PACKET_ITEM] = {
         1, 0, 8, 0, 0, 0, 36, 0,
-        4, 0, 0, 0, 0, 0, 0, 0, 0, 0, 0, 0, 0, 0, 0, 0, 0, 0, 0, 0, 255, 255, 255, 255, 255, 255, 255, 255,
+        SEQTULLO_KIND_WEEKDAY, 0, 0, 0, 0, 0, 0, 0, 0, 0, 0, 0, 0, 0, 0, 0, 0, 0, 0, 0, 255, 255, 255, 255, 255, 255, 255, 255,
     };
+    /* A base that is refused would be refused again by each call. */
     struct seqtullo_answer base = seqtullo_new(2024, 3, 13, 9, 30, 0, 0, 0);
     for (size_t i = 0; i < sizeof texts / sizeof *texts; i++)
         show(texts[i], seqtullo_read_text((const uint8_t *)texts[i], strlen(texts[i]), base.record));
