@@ -28,7 +28,7 @@ turned_false false e = e
 
 -- ---- counting days
 
-next_closed : (today : ℕ) → today < 7 → next_weekday today ≡ (today + 1) % 7
+pub next_closed : (today : ℕ) → today < 7 → next_weekday today ≡ (today + 1) % 7
 unfolding next_weekday
 next_closed today h = by (eqb today 6) refl
   where

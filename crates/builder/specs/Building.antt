@@ -50,7 +50,8 @@ on_time (Some t) r = do
   next ← on_offset t.offset r
   with_time next (time t.hour t.minute t.second t.nanosecond)
 
--- A week forward is one less where another day comes first: on a Monday, next Friday is this week's.
+-- A week forward is one less where another day comes first: on a Monday, next Friday is this week's. What the weeks mean is in Weekdays.antt. The
+-- manual moves "one week before or after the day that DAY by itself would represent" (29.6): docs/DIFFERENCES.md.
 abbrev pub nearer : ℤ → ℤ
 nearer (pos (suc n)) = pos n
 nearer (pos zero) = pos 0
@@ -59,8 +60,8 @@ nearer (negsuc n) = negsuc n
 unfoldable pub weeks : ℤ → Bool → ℤ
 weeks n same = cond same n (nearer n)
 
--- The days from one day of the week to the next that is another, 0 to itself: counted day by day, at most so many. It is the least number of
--- days after which the weekday is the other (proofs/Weekdays.antt, `least`).
+-- The days from the weekday `today` to the next day that is the weekday `target`, 0 if they are the same: counted day by day, at most so many.
+-- It is the least number of days after which the weekday is that one (proofs/Reached.antt, `least`).
 unfoldable pub days_to : ℕ → ℕ → ℕ → ℕ
 days_to zero today target = 0
 days_to (suc most) today target = cond (eqb today target) 0 (suc (days_to most (next_weekday today) target))

@@ -140,7 +140,7 @@ fn delta(weekday: Weekday, today: u32) -> Result<i32, Refusal>
     weekday_sum(weeks(weekday.offset, today == target), ahead(today, target))
 }
 
-// The days from one day of the week to the next that is another, 0 to itself.
+// The days from today to the next day that is the target, 0 if today is.
 #[tactic(auto, using(crate::proofs::Weekdays::ahead_requested))]
 fn ahead(today: u32, target: u32) -> u32
     requires { (today < 7) × (target < 7) }

@@ -1,5 +1,6 @@
--- What the library answers, a clause for each call: docs/SCOPE.md, 'The functions for hosts'. The contracts of the crate `seqtullo` cite this file, and
--- what is proved of the calls (theorems_hosts, theorems_round_trip, theorems_packets) is said of it.
+-- What the library answers, a clause for each call but `seqtullo_days_in_month`, which is `month_days` alone: docs/SCOPE.md, 'The functions for
+-- hosts'. The contracts of the crate `seqtullo` cite this file, and what is proved of the calls (theorems_hosts, theorems_round_trip,
+-- theorems_packets) is said of it.
 use Rattle.std.specs.Prelude.{ℕ, ℤ, List, length, ◌≡◌}
 use Rattle.extended.specs.Extended.{make, date, time, accept, from_unix_seconds, unix_seconds, add_days, add_hours, add_minutes, add_seconds, add_years, add_months, weekday_monday0, day_of_year}
 use Rattle.extended.specs.declared.ExtendedDateTime.{ExtendedDateTime}

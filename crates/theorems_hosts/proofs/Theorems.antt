@@ -1,18 +1,22 @@
--- Every call of the library, for all arguments: number 0, place 0 and an accepted record, or one refusal with a number that this call can give,
--- a place within its bounds and the blank record. Read this file with host_calls/specs/Calls and Given. Assumes nothing.
+-- What every call of the library promises, for all arguments. A call that is answered by a record: number 0, place 0 and an accepted record, or
+-- one refusal with a number that this call can give, a place within its bounds and the blank record; the others in the same way. Read this file
+-- with host_calls/specs/Calls and Given. Assumes nothing.
 use native.Mathlib.Omega.{arith}
-use Prim.Native.Nat.{ℕ, ◌+◌, ◌-◌, ◌≤◌}
-use mathlib.Core.Path.{◌≡◌, refl, ap}
+use Prim.Native.Nat.{ℕ, ◌<◌, ◌+◌, ◌-◌, ◌≤◌}
+use mathlib.Core.Path.{◌≡◌, refl, sym, ap, ◌∙◌}
 use mathlib.Core.List.{List, []}
-use lib.ListN.{length}
+use lib.ListN.{length, drop}
 use lib.Dec.{leb}
 use Rattle.builder.specs.Building.{build}
 use Rattle.items.specs.declared.Item.{Item}
-use mathlib.Core.Bool.{true}
+use mathlib.Core.Bool.{Bool, true, false}
 use Rattle.answers.specs.Outcome.{Outcome, accepted, refused, check}
 use Rattle.answers.specs.Outcome as outcome
-use Rattle.answers.proofs.Outcomes.{first_passed, same}
-use Rattle.calendar.proofs.Counting.{weekday_closed, months_step, months_le, months_of_year, year_bounds, month_bound}
+use Rattle.answers.proofs.Outcomes.{apart, first_passed, same}
+use borrow.Author.Tests.{leb-true}
+use lib.Seq.{take-append_seam, drop-append_seam}
+use mathlib.Core.Logic.{◌⊎◌, inl, inr}
+use Rattle.calendar.proofs.Counting.{weekday_closed, months_step, months_le, months_of_year, year_bounds, month_bounds, month_zero, month_beyond}
 use Rattle.extended.specs.Calendar.{month_days, days_of_months, day_number, weekday, monday_weekday}
 use Rattle.extended.proofs.Records.{facts}
 use Rattle.writer.specs.Writer.{whole_minutes, text_of, written, bytes_of, written_answer, over}
@@ -92,7 +96,8 @@ accepted_always base digits xs r e = accepted_built digits xs base r e
 whole_always : (base : ExtendedDateTime) → Whole base → (digits : List ℕ) (xs : List Item) → Fine Whole (build digits xs base)
 whole_always base k digits xs r e = whole_built digits xs base r k e
 
--- Under a base with an offset of whole minutes, so is every offset that is read: what a text or a packet gives can be written.
+-- Under a base with an offset of whole minutes, every offset that is read is one of whole minutes too: what a text or a packet gives can be
+-- written.
 pub text_whole : (text : List ℕ) (base r : ExtendedDateTime) → whole_minutes base.offset_seconds ≡ true → read_text text base ≡ fine r → whole_minutes r.offset_seconds ≡ true
 text_whole text base r k e = text_fine Whole base (whole_always base k) text r e
 
@@ -131,9 +136,9 @@ tested_first P r a f g = by (test r) refl (test_numbered r)
     by o e (value u) = g e
     by o e (by_number k n) = f k n
 
-pub one_moment : (r : ExtendedDateTime) → AnswersMoment record_numbers (moment_of r)
+pub one_moment : (r : ExtendedDateTime) → AnswersMoment record_numbers r (moment_of r)
 unfolding unix_seconds moment_answer
-one_moment r = tested_first (λ o. AnswersMoment record_numbers (moment_answer o)) r (moment r) (λ k e. no_moment e refl) (λ t. a_moment refl)
+one_moment r = tested_first (λ o. AnswersMoment record_numbers r (moment_answer o)) r (moment r) (λ k e. no_moment e refl) (λ t. a_moment refl refl)
 
 -- from Monday, 0, to Sunday, 6; and the days of a year
 abbrev first_value : Question → ℕ
@@ -158,29 +163,48 @@ one_number (DayOfYear r) = tested_first (λ o. AnswersNumber record_numbers 1 36
         let b = months_le r.year r.month 12 v.month_high in
         a_number refl (omega (arith, v.day_low)) (omega (arith, a, b, v.day_high, months_of_year r.year, year_bounds r.year))
 
-pub one_day : (year month : ℕ) → month_days year month ≤ 31
-one_day = month_bound
+-- `seqtullo_days_in_month`: 28 to 31 days, and 0 outside the months
+pub month_length : (year month : ℕ) → 1 ≤ month → month ≤ 12 → (28 ≤ month_days year month) × (month_days year month ≤ 31)
+month_length = month_bounds
+
+pub no_month : (year month : ℕ) → (month < 1) ⊎ (12 < month) → month_days year month ≡ 0
+no_month year month (inl h) = month_zero year month h
+no_month year month (inr h) = month_beyond year month h
 
 written_numbered : (r : ExtendedDateTime) (room : ℕ) → Numbered written_numbers (written r room)
 unfolding written
 written_numbered r room = next (wider written_numbers refl (test_numbered r)) (search steps)
 
-written_long : (r : ExtendedDateTime) (room : ℕ) (l : List ℕ) → written r room ≡ accepted l → (35 ≤ length l) × (length l ≤ 41)
+checked : (b : Bool) (k : ℕ) → check b k ≡ accepted tt → b ≡ true
+checked true k e = refl
+checked false k e = apart e
+
+-- a text that is written
+record Long (r : ExtendedDateTime) (room : ℕ) (l : List ℕ) : Type 0 where
+  bounds : (35 ≤ length l) × (length l ≤ 41)
+  fits : length l ≤ room
+  text : text_of r ≡ l
+
+written_long : (r : ExtendedDateTime) (room : ℕ) (l : List ℕ) → written r room ≡ accepted l → Long r room l
 unfolding written
 written_long r room l e =
     let a = first_passed (test r) _ e in
     let b = first_passed (check (whole_minutes r.offset_seconds) 20) _ a.1 in
     let c = first_passed (check (leb (length (text_of r)) room) 19) _ b.1 in
-    let d = text_long r (facts r a.0) in
     let f : text_of r ≡ l = same c.1 in
-    rw f at d
+    let d = text_long r (facts r a.0) in
+    let h = leb-true (length (text_of r)) room (checked (leb (length (text_of r)) room) 19 c.0) in
+    record { bounds = rw f at d; fits = rw f at h; text = f }
 
 -- The text of a record, in 35 to 41 bytes; a refusal writes nothing, and changes no lent byte.
-pub one_text : (r : ExtendedDateTime) (out : List ℕ) (w : Written) (left : List ℕ) → Wrote r out w left → Writes written_numbers out w left
-one_text r out w left c = by (written r (length out)) refl (written_numbered r (length out)) c.answered c.bytes
+pub one_writing : (r : ExtendedDateTime) (out : List ℕ) (w : Written) (left : List ℕ) → Wrote r out w left → Writes written_numbers r out w left
+one_writing r out w left c = by (written r (length out)) refl (written_numbered r (length out)) c.answered c.bytes
   where
-    by : (o : Outcome (List ℕ)) → written r (length out) ≡ o → Numbered written_numbers o → w ≡ written_answer o → left ≡ over (bytes_of o) out → Writes written_numbers out w left
-    by o e (value l) a b = let d = written_long r (length out) l e in rw a (a_text refl d.0 d.1)
+    by : (o : Outcome (List ℕ)) → written r (length out) ≡ o → Numbered written_numbers o → w ≡ written_answer o → left ≡ over (bytes_of o) out → Writes written_numbers r out w left
+    by o e (value l) a b =
+        let d = written_long r (length out) l e in
+        let t = take-append_seam l (drop (length l) out) ∙ sym d.text in
+        rw (a, b) (a_text refl d.bounds.0 d.bounds.1 d.fits t (drop-append_seam l (drop (length l) out)))
     by o e (by_number k n) a b = rw a (no_text n refl b)
 
 -- ---- letters

@@ -1,5 +1,6 @@
 -- Which texts are answered with 22, on the calls of hosts: exactly the admitted ones in which one of the first 64 items that the Rust reads
--- loses a digit, at the end of the item before. All others are answered as the Rust reads them. Assumes nothing.
+-- loses a digit, at the end of the item before. All others are answered as the Rust reads them: as the same readers answer where lost digits are
+-- ignored. Assumes nothing.
 use borrow.Author.Tests.{leb-true, le-leb}
 use native.Mathlib.Omega.{arith}
 use Prim.Native.Nat.{ℕ}

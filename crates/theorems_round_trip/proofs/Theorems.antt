@@ -3,6 +3,7 @@
 -- numbers of r; `moment` is the counted calendar's, in whole numbers without bound. Assumes nothing.
 use native.Mathlib.Omega.{arith}
 use borrow.Author.Tests.{le-leb}
+use lib.Dec.{leb}
 use Prim.Native.Nat.{ℕ, ◌+◌, ◌/◌, ◌%◌, ◌<◌, ◌≤◌}
 use mathlib.Core.Path.{◌≡◌, refl, sym, ap, ap₂, ◌∙◌}
 use mathlib.Core.Bool.{Bool, true, false}
@@ -10,7 +11,7 @@ use mathlib.Core.List.{List, ◌++◌}
 use lib.IntN.{ℤ, pos, ◌+ℤ◌, +ℤ_idr}
 use lib.ListN.{length, drop}
 use lib.Seq.{take-append_seam, drop-append_seam}
-use Rattle.answers.specs.Outcome.{Outcome, accepted, refused}
+use Rattle.answers.specs.Outcome.{Outcome, accepted, refused, number, check, ◌>>◌}
 use Rattle.extended.specs.Extended.{Recorded, test, moment, add_seconds}
 use Rattle.extended.specs.declared.ExtendedDateTime.{ExtendedDateTime}
 use Rattle.answers.proofs.Outcomes.{same}
@@ -18,16 +19,16 @@ use Rattle.extended.proofs.Records.{facts}
 use Rattle.extended.proofs.Theorems.{from_unix_seconds_exact, seconds_exact, seconds_refused}
 use Rattle.primitive.specs.Ordinal.{signed}
 use Rattle.answers.specs.Placed.{placed}
-use Rattle.writer.specs.Writer.{text_of, written, bytes_of, written_answer, over}
+use Rattle.writer.specs.Writer.{whole_minutes, text_of, written, bytes_of, written_answer, over}
 use Rattle.writer.specs.declared.Written.{Written}
 use Rattle.writer.proofs.Texts.{text_long}
 use Rattle.writer.proofs.Theorems.{one_owner}
 use Rattle.text_general.specs.Reading.{read_text}
 use Rattle.theorems_round_trip.proofs.Texts.{shift, read_alone, read_moved}
-use Rattle.theorems_round_trip.proofs.Refusals.{positive, not_among, given, Among, a_value, placed_among, add_seconds_numbered}
+use Rattle.theorems_round_trip.proofs.Refusals.{Numbered, value, by_number, test_numbered, not_in, positive, not_among, given, Among, a_value, placed_among, add_seconds_numbered}
 use Rattle.theorems_round_trip.proofs.TextRefusals.{any_base}
 use Rattle.host_answers.specs.Hosts.{placed_answer}
-use Rattle.host_calls.specs.Given.{sum_numbers}
+use Rattle.host_calls.specs.Given.{record_numbers, sum_numbers}
 use Rattle.host_calls.specs.Calls.{answer, ReadText, Wrote}
 use Rattle.theorems_round_trip.specs.Promises.{Writable, seconds, text_in, Answered, there, nowhere}
 use Rattle.host_answers.specs.declared.Answer.{Answer}
@@ -53,21 +54,48 @@ written_whole : (r : ExtendedDateTime) (room : ℕ) → Writable r → 41 ≤ ro
 unfolding written
 written_whole r room k h = rw (k.accepted_record, k.whole, le-leb (length (text_of r)) room (omega (arith, text_long r (facts r k.accepted_record))))
 
-module _ (r : ExtendedDateTime) (k : Writable r) (out : List ℕ) (room : 41 ≤ length out) (w : Written) (left : List ℕ) (call : Wrote r out w left) where
+-- what is answered with 0 is written whole, and its record can be written
+written_done : (r : ExtendedDateTime) (room : ℕ) → number (written r room) ≡ 0 → Writable r × (written r room ≡ accepted (text_of r))
+unfolding written
+written_done r room e = by (test r) refl (test_numbered r) (whole_minutes r.offset_seconds) refl (leb (length (text_of r)) room) e
+  where
+    next : Bool → Bool → Outcome (List ℕ)
+    next u v = check u 20 >> (check v 19 >> accepted (text_of r))
+
+    by : (o : Outcome (Unit {0})) → test r ≡ o → Numbered record_numbers o → (u : Bool) → whole_minutes r.offset_seconds ≡ u → (v : Bool) → number (o >> next u v) ≡ 0 →
+        Writable r × ((o >> next u v) ≡ accepted (text_of r))
+    by o t (value a) true h true f = (record { accepted_record = t; whole = h }, refl)
+    by o t (value a) true h false f = absurd (omega (arith, f))
+    by o t (value a) false h v f = absurd (omega (arith, f))
+    by o t (by_number n m) u h v f = absurd (not_in record_numbers n 0 refl m f)
+
+-- Every accepted record with an offset of whole minutes is written where 41 bytes or more are lent: in 35 to 41 bytes, and the bytes after them
+-- stay.
+pub is_written : (r : ExtendedDateTime) → Writable r → (out : List ℕ) → 41 ≤ length out → (w : Written) (left : List ℕ) → Wrote r out w left →
+    (w.number ≡ 0) × (35 ≤ w.length) × (w.length ≤ 41) × (drop w.length left ≡ drop w.length out)
+is_written r k out room w left call =
+    let e = written_whole r (length out) k room in
+    let a : w ≡ record { number = 0; length = length (text_of r) } = call.answered ∙ ap written_answer e in
+    let b : left ≡ text_of r ++ drop (length (text_of r)) out = call.bytes ∙ ap (λ o. over (bytes_of o) out) e in
+    let l = text_long r (facts r k.accepted_record) in
+    (rw a, rw a l.0, rw a l.1, rw (a, b) (drop-append_seam (text_of r) (drop (length (text_of r)) out)))
+
+-- A call that was answered with 0, however many bytes were lent.
+module _ (r : ExtendedDateTime) (out : List ℕ) (w : Written) (left : List ℕ) (call : Wrote r out w left) (done : w.number ≡ 0) where
+  facts_written : Writable r × (written r (length out) ≡ accepted (text_of r))
+  facts_written = written_done r (length out) (sym (ap (λ (x : Written). x.number) call.answered) ∙ done)
+
+  k : Writable r
+  k = facts_written.0
+
   answered : w ≡ record { number = 0; length = length (text_of r) }
-  answered = call.answered ∙ ap written_answer (written_whole r (length out) k room)
+  answered = call.answered ∙ ap written_answer facts_written.1
 
   lent : left ≡ text_of r ++ drop (length (text_of r)) out
-  lent = call.bytes ∙ ap (λ o. over (bytes_of o) out) (written_whole r (length out) k room)
+  lent = call.bytes ∙ ap (λ o. over (bytes_of o) out) facts_written.1
 
   text_in_lem : text_in w left ≡ text_of r
   text_in_lem = rw (answered, lent) (take-append_seam (text_of r) (drop (length (text_of r)) out))
-
-  -- Every such record is written where 41 bytes or more are lent: in 35 to 41 bytes, and the bytes behind them stay.
-  pub is_written : (w.number ≡ 0) × (35 ≤ w.length) × (w.length ≤ 41) × (drop w.length left ≡ drop w.length out)
-  is_written =
-      let l = text_long r (facts r k.accepted_record) in
-      (rw answered, rw answered l.0, rw answered l.1, rw (answered, lent) (drop-append_seam (text_of r) (drop (length (text_of r)) out)))
 
   -- ---- reading it back
 
@@ -115,11 +143,13 @@ module _ (r : ExtendedDateTime) (k : Writable r) (out : List ℕ) (room : 41 ≤
         undropped (text_in w left ++ seconds minus n)
         (λ b. rw (text_in_lem, ← seconds_are minus n, read_moved base r b k.accepted_record k.whole minus n (omega arith)) (placed_among 0 (add_seconds_numbered r (signed minus n) 0)))
 
--- No two such records are written as one text.
-pub one_text : (r s : ExtendedDateTime) → Writable r → Writable s → (out out' : List ℕ) → 41 ≤ length out → 41 ≤ length out' → (w w' : Written) (left left' : List ℕ) →
-    Wrote r out w left → Wrote s out' w' left' → text_in w left ≡ text_in w' left' → r ≡ s
-one_text r s k l out out' room room' w w' left left' c c' e =
-    one_owner r s k.accepted_record l.accepted_record k.whole l.whole (sym (text_in_lem r k out room w left c) ∙ e ∙ text_in_lem s l out' room' w' left' c')
+-- No two records are written as one text.
+pub one_text : (r s : ExtendedDateTime) (out out' : List ℕ) (w w' : Written) (left left' : List ℕ) → Wrote r out w left → w.number ≡ 0 → Wrote s out' w' left' → w'.number ≡ 0 →
+    text_in w left ≡ text_in w' left' → r ≡ s
+one_text r s out out' w w' left left' c d c' d' e =
+    let k = facts_written r out w left c d in
+    let l = facts_written s out' w' left' c' d' in
+    one_owner r s k.0.accepted_record l.0.accepted_record k.0.whole l.0.whole (sym (text_in_lem r out w left c d) ∙ e ∙ text_in_lem s out' w' left' c' d')
 
 -- There is at most one accepted record of a moment, a nanosecond and an offset.
 pub one_record : (u : ℤ) (n : ℕ) (o : ℤ) (r s : ExtendedDateTime) → Recorded u n o r → Recorded u n o s → r ≡ s
