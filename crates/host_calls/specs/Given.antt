@@ -52,6 +52,10 @@ numbers (AddMonths r n) = sum_numbers
 numbers (ReadText text base) = text_numbers
 numbers (ReadPacket packet base) = packet_numbers
 
+-- The numbers whose refusals have a place. That the place of any other number is 0 is proved in theorems_hosts, proofs/PlaceByNumber.antt.
+abbrev pub placed_numbers : List ℕ
+placed_numbers = refusal.foreign ∷ refusal.unread ∷ refusal.stopped ∷ refusal.packet ∷ refusal.twice ∷ refusal.rival ∷ refusal.pure ∷ refusal.fraction ∷ []
+
 -- No place is beyond this one: a text's end, the number of items that a packet may have, and 0 for a call without a place.
 abbrev pub last_place : Call → ℕ
 last_place (New year month day hour minute second nanosecond offset) = 0

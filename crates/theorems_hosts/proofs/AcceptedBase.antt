@@ -122,11 +122,11 @@ packet_items_under : (bytes area : List ℕ) (n : ℕ) (base : ExtendedDateTime)
 unfolding build_items
 packet_items_under bytes area n base t = by (items_from bytes area n 0 0) (items_from_among bytes area n 0 0) (λ xs e. items_ranged bytes area n 0 0 xs e)
   where
-    by : (p : Placed (List Item)) → Among packets.reading_numbers p → ((xs : List Item) → p ≡ fine xs → AllInRange xs) → Among packet_numbers_accepted (placing.◌>>=◌ p (λ xs. build area xs base))
+    by : (p : Placed (List Item)) → Among packets.item_numbers p → ((xs : List Item) → p ≡ fine xs → AllInRange xs) → Among packet_numbers_accepted (placing.◌>>=◌ p (λ xs. build area xs base))
     by (fine xs) h f =
         build_under packet_numbers_accepted refl refl area xs base t (f xs refl) (packet_moves (relatives xs))
         (among_wider packet_numbers_accepted refl (gather_among area 0 empty xs))
-    by p (a_refusal k at e) f = a_refusal k at (has_covers packets.reading_numbers packet_numbers_accepted k refl e)
+    by p (a_refusal k at e) f = a_refusal k at (has_covers packets.item_numbers packet_numbers_accepted k refl e)
 
 -- Whatever the bytes, under an accepted base: the answer's number is 0 or one of these.
 pub packet_under_accepted : (bytes : List ℕ) (base : ExtendedDateTime) → test base ≡ accepted tt → Among packet_numbers_accepted (read_packet bytes base)

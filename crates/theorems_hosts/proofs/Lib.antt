@@ -3,6 +3,7 @@ pub mod PartsInRange
 pub mod AcceptedBuilds
 pub mod AcceptedBase
 pub mod Places
+pub mod PlaceByNumber
 pub mod Theorems
 pub mod Lines
 pub mod Weekdays

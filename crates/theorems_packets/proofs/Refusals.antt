@@ -14,31 +14,34 @@ use Rattle.items.specs.declared.Item.{Item}
 use Rattle.theorems_round_trip.proofs.Refusals.{Numbered, steps, Among, answers, among_wider, test_numbered, wider}
 use Rattle.theorems_round_trip.proofs.BuildRefusals.{build_among}
 
--- the numbers that the reading of a packet's items ends with where it is refused
-abbrev pub reading_numbers : List ℕ
-reading_numbers = refusal.oversize ∷ refusal.packet ∷ []
+-- what a header and what an item is refused with
+abbrev pub header_numbers : List ℕ
+header_numbers = refusal.oversize ∷ refusal.packet ∷ []
 
-pub header_numbered : (bytes : List ℕ) → Numbered reading_numbers (header bytes)
+abbrev pub item_numbers : List ℕ
+item_numbers = refusal.packet ∷ []
+
+pub header_numbered : (bytes : List ℕ) → Numbered header_numbers (header bytes)
 unfolding header
 header_numbered bytes = search steps
 
-weekday_of_numbered : (f : Fields) → Numbered reading_numbers (weekday_of f)
+weekday_of_numbered : (f : Fields) → Numbered item_numbers (weekday_of f)
 unfolding weekday_of small day_of
 weekday_of_numbered f = search steps depth 10
 
-relative_of_numbered : (f : Fields) → Numbered reading_numbers (relative_of f)
+relative_of_numbered : (f : Fields) → Numbered item_numbers (relative_of f)
 unfolding relative_of small unit_of
 relative_of_numbered f = search steps depth 10
 
-unpacked_numbered : (f : Fields) (used : ℕ) → Numbered reading_numbers (unpacked f used)
+unpacked_numbered : (f : Fields) (used : ℕ) → Numbered item_numbers (unpacked f used)
 unfolding unpacked item_of fitting
 unpacked_numbered f used = search (steps, weekday_of_numbered, relative_of_numbered) depth 12
 
-item_at_numbered : (bytes area : List ℕ) (i used : ℕ) → Numbered reading_numbers (item_at bytes area i used)
+pub item_at_numbered : (bytes area : List ℕ) (i used : ℕ) → Numbered item_numbers (item_at bytes area i used)
 unfolding item_at
 item_at_numbered bytes area i used = search (steps, unpacked_numbered)
 
-pub items_from_among : (bytes area : List ℕ) (n i used : ℕ) → Among reading_numbers (items_from bytes area n i used)
+pub items_from_among : (bytes area : List ℕ) (n i used : ℕ) → Among item_numbers (items_from bytes area n i used)
 unfolding items_from
 items_from_among bytes area zero i used = search answers
 items_from_among bytes area (suc n) i used = search (answers, item_at_numbered bytes area, items_from_among bytes area n)
