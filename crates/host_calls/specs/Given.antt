@@ -1,9 +1,9 @@
 -- Which numbers a call can give, and how far its place can be: docs/SCOPE.md, 'Answers by number'. That no call gives another number is proved
--- in theorems_hosts, proofs/Theorems.antt; proofs/AcceptedBase.antt has the shorter lists of an accepted base.
+-- in theorems_hosts, proofs/Theorems.antt, and for the shorter lists of an accepted base in proofs/AcceptedBase.antt.
 use Rattle.answers.specs.Numbers as refusal
 use Rattle.answers.specs.Limits.{most_items}
 use Rattle.std.specs.Prelude.{ℕ, Bool, false, ◌||◌, List, [], ◌∷◌, eqb, length}
-use Rattle.host_calls.specs.Calls.{Call, New, FromUnixSeconds, AddDays, AddHours, AddMinutes, AddSeconds, AddYears, AddMonths, ReadText, ReadPacket}
+use Rattle.host_calls.specs.Calls.{Question, Weekday, DayOfYear, Call, New, FromUnixSeconds, AddDays, AddHours, AddMinutes, AddSeconds, AddYears, AddMonths, ReadText, ReadPacket}
 
 -- whether a number is in a list
 abbrev pub has : List ℕ → ℕ → Bool
@@ -18,7 +18,7 @@ record_numbers = refusal.over ∷ refusal.month ∷ refusal.day ∷ refusal.hour
 abbrev pub moment_numbers : List ℕ
 moment_numbers = refusal.over ∷ refusal.under ∷ refusal.nanosecond ∷ refusal.offset ∷ refusal.sum ∷ []
 
--- a record and what is added to it: all from 9 to 18
+-- A record and what is added to it: all from 9 to 18. Years and months reach 18 only for numbers that no i32 is, of which the definitions take any.
 abbrev pub sum_numbers : List ℕ
 sum_numbers = refusal.under ∷ refusal.sum ∷ record_numbers
 
@@ -56,15 +56,24 @@ numbers (ReadPacket packet base) = packet_numbers
 abbrev pub placed_numbers : List ℕ
 placed_numbers = refusal.foreign ∷ refusal.unread ∷ refusal.stopped ∷ refusal.packet ∷ refusal.twice ∷ refusal.rival ∷ refusal.pure ∷ refusal.fraction ∷ []
 
--- No place is beyond this one: a text's end, the number of items that a packet may have, and 0 for a call without a place.
-abbrev pub last_place : Call → ℕ
-last_place (New year month day hour minute second nanosecond offset) = 0
-last_place (FromUnixSeconds seconds nanosecond offset) = 0
-last_place (AddDays r n) = 0
-last_place (AddHours r n) = 0
-last_place (AddMinutes r n) = 0
-last_place (AddSeconds r n k) = 0
-last_place (AddYears r n) = 0
-last_place (AddMonths r n) = 0
-last_place (ReadText text base) = length text
-last_place (ReadPacket packet base) = most_items
+-- What no place is beyond: a text's length, the number of items that a packet may have, and 0 for a call without a place.
+abbrev pub place_limit : Call → ℕ
+place_limit (New year month day hour minute second nanosecond offset) = 0
+place_limit (FromUnixSeconds seconds nanosecond offset) = 0
+place_limit (AddDays r n) = 0
+place_limit (AddHours r n) = 0
+place_limit (AddMinutes r n) = 0
+place_limit (AddSeconds r n k) = 0
+place_limit (AddYears r n) = 0
+place_limit (AddMonths r n) = 0
+place_limit (ReadText text base) = length text
+place_limit (ReadPacket packet base) = most_items
+
+-- the numbers that a question is answered with: from Monday, 0, to Sunday, 6; and the days of a year
+abbrev pub first_value : Question → ℕ
+first_value (Weekday r) = 0
+first_value (DayOfYear r) = 1
+
+abbrev pub last_value : Question → ℕ
+last_value (Weekday r) = 6
+last_value (DayOfYear r) = 366

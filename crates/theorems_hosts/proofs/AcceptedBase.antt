@@ -1,5 +1,11 @@
--- Which numbers a text and a packet can get under an accepted base: fewer than those of `one_answer` (proofs/Theorems.antt), which a refused base
--- gives too. Of 11 to 17 a text can get 12, a packet 12 and 16. Assumes nothing.
+-- Which numbers a text and a packet can get under an accepted base: fewer than `one_answer` (proofs/Theorems.antt) names, which also counts those
+-- of a refused base. Of 11 to 17 a text can get 12, a packet 12 and 16. Assumes nothing.
+use Rattle.answers.specs.Limits.{most_items}
+use Rattle.host_calls.specs.Calls.{answer, ReadText, ReadPacket}
+use Rattle.packet.proofs.Places.{place_within}
+use Rattle.theorems_hosts.specs.Promises.{Answers}
+use Rattle.theorems_hosts.proofs.Places.{text_place}
+use Rattle.theorems_hosts.proofs.Theorems.{of_placed, text_accepted, packet_accepted}
 use Prim.Native.Nat.{ℕ, zero, suc, ◌+◌}
 use mathlib.Core.Path.{◌≡◌, refl}
 use mathlib.Core.Bool.{Bool, true, false, cond}
@@ -134,3 +140,12 @@ unfolding read_packet
 packet_under_accepted bytes base t =
     step_then (placed_among 0 (base_passed base t packet_numbers_accepted))
     (step_then (among_wider packet_numbers_accepted refl (placed_among 0 (header_numbered bytes))) (packet_items_under bytes (digits bytes) (count bytes) base t))
+
+-- ---- the calls
+
+-- So is the answer to a call, as `one_answer` says it, with the shorter lists.
+pub text_answers : (text : List ℕ) (base : ExtendedDateTime) → test base ≡ accepted tt → Answers text_numbers_accepted (length text) (answer (ReadText text base))
+text_answers text base t = of_placed text_numbers_accepted (length text) (read_text text base) (text_under_accepted text base t) (text_place text base) (text_accepted text base)
+
+pub packet_answers : (bytes : List ℕ) (base : ExtendedDateTime) → test base ≡ accepted tt → Answers packet_numbers_accepted most_items (answer (ReadPacket bytes base))
+packet_answers bytes base t = of_placed packet_numbers_accepted 64 (read_packet bytes base) (packet_under_accepted bytes base t) (place_within bytes base) (packet_accepted bytes base)

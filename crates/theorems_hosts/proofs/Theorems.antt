@@ -27,7 +27,7 @@ use Rattle.extended.specs.Extended.{make, date, time, test, accept, moment, unix
 use Rattle.extended.specs.declared.ExtendedDateTime.{ExtendedDateTime}
 use Rattle.host_answers.specs.Hosts.{record_answer, placed_answer, moment_answer, number_answer}
 use Rattle.host_calls.specs.Calls.{Call, New, FromUnixSeconds, AddDays, AddHours, AddMinutes, AddSeconds, AddYears, AddMonths, ReadText, ReadPacket, answer, moment_of, Question, Weekday, DayOfYear, number_of, Wrote}
-use Rattle.host_calls.specs.Given.{has, written_numbers, record_numbers, moment_numbers, sum_numbers, text_numbers, packet_numbers, numbers, last_place}
+use Rattle.host_calls.specs.Given.{first_value, last_value, has, written_numbers, record_numbers, moment_numbers, sum_numbers, text_numbers, packet_numbers, numbers, place_limit}
 use Rattle.packet.proofs.Places.{place_within}
 use Rattle.packet.specs.Packet.{count, header, digits, items_from, build_items, read_packet}
 use Rattle.items.specs.Items.{parse_items}
@@ -46,7 +46,7 @@ unfolding record_answer
 of_outcome g last o (value r) a = a_record refl refl (a r refl).0
 of_outcome g last o (by_number k e) a = no_record e (omega arith) refl
 
-of_placed : (g : List ℕ) (last : ℕ) (p : Placed ExtendedDateTime) → Among g p → place_of p ≤ last → ((r : ExtendedDateTime) → p ≡ fine r → test r ≡ accepted tt) → Answers g last (placed_answer p)
+pub of_placed : (g : List ℕ) (last : ℕ) (p : Placed ExtendedDateTime) → Among g p → place_of p ≤ last → ((r : ExtendedDateTime) → p ≡ fine r → test r ≡ accepted tt) → Answers g last (placed_answer p)
 unfolding placed_answer
 of_placed g last p (a_value r) l a = a_record refl refl (a r refl)
 of_placed g last p (a_refusal k at e) l a = no_record e l refl
@@ -113,7 +113,7 @@ packet_accepted bytes base = packet_fine Accepted base (accepted_always base) by
 -- ---- the calls
 
 -- Whatever is asked: an accepted record, or one refusal of this call, with a place that is within its bounds, and the blank record.
-pub one_answer : (c : Call) → Answers (numbers c) (last_place c) (answer c)
+pub one_answer : (c : Call) → Answers (numbers c) (place_limit c) (answer c)
 unfolding add_days add_hours add_minutes
 one_answer (New y m d h n s k o) = of_outcome record_numbers 0 (accept (make (date y m d) (time h n s k) o)) (accept_numbered (make (date y m d) (time h n s k) o)) (accept_good Any (make (date y m d) (time h n s k) o) tt)
 one_answer (FromUnixSeconds u n o) = of_outcome moment_numbers 0 (from_unix_seconds u n o) (from_unix_seconds_numbered u n o) (unix_good Any u n o tt)
@@ -139,15 +139,6 @@ tested_first P r a f g = by (test r) refl (test_numbered r)
 pub one_moment : (r : ExtendedDateTime) → AnswersMoment record_numbers r (moment_of r)
 unfolding unix_seconds moment_answer
 one_moment r = tested_first (λ o. AnswersMoment record_numbers r (moment_answer o)) r (moment r) (λ k e. no_moment e refl) (λ t. a_moment refl refl)
-
--- from Monday, 0, to Sunday, 6; and the days of a year
-abbrev first_value : Question → ℕ
-first_value (Weekday r) = 0
-first_value (DayOfYear r) = 1
-
-abbrev last_value : Question → ℕ
-last_value (Weekday r) = 6
-last_value (DayOfYear r) = 366
 
 pub one_number : (q : Question) → AnswersNumber record_numbers (first_value q) (last_value q) (number_of q)
 unfolding weekday_monday0 monday_weekday day_of_year number_answer
