@@ -166,8 +166,8 @@ seconds. No answer has number 21.
 |---|---|---|
 | 2 | bytes: the index of the first byte of 128 or more | %s |
 | 3, 4, 22 | bytes: where the item before ended, 0 without one. Blanks after it are not passed, but those after a year that follows dots or a month's name are the date's | %s, %s, %s, %s |
-| 6, 7, 8 | items from 0: the one that breaks the rule | %s |
-| 5 | items from 0; 0 in the header; the number of items for digits left over | a packet's |
+| 6, 7, 8 | items from 0: the one that breaks the rule | %s; a packet of a zone and a time with an offset: 7 at 1; a packet of a pure number of five digits: 8 at 0 |
+| 5 | items from 0; 0 in the header; the number of items for digits left over | a second item of kind 9: 5 at 1; one item, and a digit that it does not use: 5 at 1 |
 | all others | 0 | |
 """
 PLACES = ['10:00 \udcc3\udca9', '10:00 tea', '31 jan 2024   tea', '10:00 +25:00', '10:00 1.0000000001 seconds', '10:00 2024-01-31 11:00']

@@ -1,4 +1,4 @@
-//! Links the static library of this repository; `rt lib` in crates/seqtullo builds it.
+//! Links the static library of this repository; compare/library builds it.
 
 use std::path::Path;
 
@@ -7,7 +7,7 @@ fn main() {
     let folder = root.join("crates/seqtullo/out");
     let archive = folder.join("libseqtullo.a");
     if !archive.exists() {
-        panic!("no {}: run `rt lib` in crates/seqtullo", archive.display());
+        panic!("no {}: run compare/library", archive.display());
     }
     println!("cargo:rustc-link-search=native={}", folder.display());
     println!("cargo:rustc-link-lib=static=seqtullo");
