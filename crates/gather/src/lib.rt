@@ -71,8 +71,8 @@ impl<const N: usize> Gathered<N> {
     }
 }
 
-// One item more that has a rule. The rule of a time alone changes the builder in its place; the rules of all kinds copy it. Inlined, they would have
-// the texts that are read at once save registers on their account.
+// One item more that has a rule. The rule of a time alone changes the builder in its place; the rules of all kinds copy it. If this were inlined,
+// every text that is read at once would save registers for it.
 #[inline(never)]
 fn add_ruled(
     standing: &mut Result<DateTimeBuilder, PlacedRefusal>,

@@ -1,7 +1,7 @@
-// How a run of the line program ends, and what it says of that: an exit status, and one line on standard error where something failed.
+// How a run of the line program ends, and the exit status that tells it.
 
-ghost use Rattle.std.specs.Prelude.{◌≡◌, ◌↔◌};
-ghost use Rattle.line_usage.specs.declared.ending.Ending.TheVariants.{Answered, BaseRefused};
+ghost use Rattle.std.specs.Prelude.{◌≡◌};
+ghost use Rattle.line_usage.specs.Endings.{status};
 
 use crate::arguments::Wrong;
 use std::io;
@@ -18,9 +18,9 @@ pub enum Ending {
 }
 
 impl Ending {
+    // The exit status.
     pub fn status(&self) -> u8
-        ensures all_answered { result ≡ 0 ↔ self.now ≡ Answered }
-        ensures base_refused { result ≡ 1 ↔ self.now ≡ BaseRefused }
+        ensures { result ≡ status self.now }
     {
         match self {
             Ending::Answered => 0,
@@ -28,27 +28,5 @@ impl Ending {
             Ending::WrongUsage(_) => 2,
             Ending::ReadFailed(_) | Ending::WriteFailed(_) => 3,
         }
-    }
-
-    // What can't be written to standard error is lost: the status still tells it.
-    pub fn tell(&self, rt: &impl Eprint) {
-        let _ = match self {
-            Ending::Answered | Ending::BaseRefused => Ok(()),
-            Ending::WrongUsage(Wrong::Unknown(i)) => {
-                eprintln!(rt;
-                    "seqtullo: argument {} is unknown; --help lists the arguments",
-                    i
-                )
-            }
-            Ending::WrongUsage(Wrong::NoText) => {
-                eprintln!(rt; "seqtullo: --base needs a text; --help lists the arguments")
-            }
-            Ending::ReadFailed(why) => {
-                eprintln!(rt; "seqtullo: reading standard input failed: {}", why)
-            }
-            Ending::WriteFailed(why) => {
-                eprintln!(rt; "seqtullo: writing standard output failed: {}", why)
-            }
-        };
     }
 }

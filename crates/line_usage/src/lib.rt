@@ -1,4 +1,4 @@
-// What the arguments want of the line program, and how a run of it ends: the exit status, and the line on standard error where something failed.
+// What the arguments want of the line program, and how a run of it ends.
 #![tactic(auto)]
 
 pub mod arguments;

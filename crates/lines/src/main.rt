@@ -14,7 +14,7 @@ ghost use Rattle.std.specs.Prelude.{◌≡◌, ◌<◌, ◌≤◌, ◌↔◌, Is
 ghost use Rattle.line_usage.specs.declared.ending.Ending.TheVariants.{Answered};
 
 use extended::ExtendedDateTime;
-use line_usage::arguments::{self, Wanted};
+use line_usage::arguments::{self, Wanted, Wrong};
 use line_usage::ending::Ending;
 use std::io::{ErrorKind, IsTerminal, Read, Stdin, Stdout, Write};
 use std::process::ExitCode;
@@ -80,8 +80,30 @@ fn main(rt: HostRuntime) -> ExitCode {
         Ok(Wanted::Version) => said(println!(rt; "seqtullo {}", VERSION)),
         Err(wrong) => Ending::WrongUsage(wrong),
     };
-    ending.tell(&rt);
+    tell(&ending, &rt);
     ExitCode::from(ending.status())
+}
+
+// Says on standard error what failed. What can't be written there is lost: the status still tells it.
+fn tell(ending: &Ending, rt: &impl Eprint) {
+    let _ = match ending {
+        Ending::Answered | Ending::BaseRefused => Ok(()),
+        Ending::WrongUsage(Wrong::Unknown(i)) => {
+            eprintln!(rt;
+                "seqtullo: argument {} is unknown; --help lists the arguments",
+                i
+            )
+        }
+        Ending::WrongUsage(Wrong::NoText) => {
+            eprintln!(rt; "seqtullo: --base needs a text; --help lists the arguments")
+        }
+        Ending::ReadFailed(why) => {
+            eprintln!(rt; "seqtullo: reading standard input failed: {}", why)
+        }
+        Ending::WriteFailed(why) => {
+            eprintln!(rt; "seqtullo: writing standard output failed: {}", why)
+        }
+    };
 }
 
 // How a run ends that only says something.

@@ -1,0 +1,2 @@
+-- The definitions of the crate `line_usage`.
+pub mod Endings
