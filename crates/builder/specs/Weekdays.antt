@@ -19,7 +19,7 @@ weekday_of r = monday_weekday (day_number r.year r.month r.day)
 abbrev pub after : ℕ → ℕ → ℕ
 after today target = suc (ahead (next_weekday today) target)
 
--- The days to the day that is meant, 7 between such days. Back from today to the last such day are as many as from it to today.
+-- The days to the day that is meant: such days are 7 apart. Going back, the days are counted from the last such day to today.
 abbrev pub days_meant : ℕ → ℕ → ℤ → ℤ
 days_meant today target (pos zero) = pos (ahead today target)
 days_meant today target (pos (suc n)) = pos (7 * n + after today target)
