@@ -3,11 +3,18 @@ use Prim.Native.Nat.{ℕ, suc, ◌≤◌}
 use mathlib.Core.Path.{◌≡◌, refl, sym, ◌∙◌}
 use mathlib.Core.Bool.{Bool, true, false}
 use native.Mathlib.Omega.{arith}
+use Rattle.answers.specs.Placed.{fine, refusal}
 use Rattle.answers.specs.Outcome.{Outcome, accepted, refused, number, check, ◌>>=◌, ◌>>◌}
 
 -- no answer is both
 pub apart : {A : Type 0} {X : Type 0} {a : A} {n : ℕ} → refused n ≡ accepted a → X
 apart e = let z : ◌≡◌ {A = ℕ} 0 1 = cc in absurd (clash z)
+  where
+    clash : ◌≡◌ {A = ℕ} 0 1 → ⊥
+    clash z = omega arith
+
+pub no_value : {A : Type 0} {X : Type 0} {a : A} {n at : ℕ} → refusal n at ≡ fine a → X
+no_value e = let z : ◌≡◌ {A = ℕ} 0 1 = cc in absurd (clash z)
   where
     clash : ◌≡◌ {A = ℕ} 0 1 → ⊥
     clash z = omega arith

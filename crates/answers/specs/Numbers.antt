@@ -1,5 +1,5 @@
--- The numbers of the answers, each with its word and its meaning: docs/SCOPE.md, 'Answers by number'. Number 0 is the answer itself; no
--- answer has number 21.
+-- The numbers of the answers, each with its word and its meaning: docs/SCOPE.md, 'Answers by number'. Number 0 is the answer
+-- itself.
 use Rattle.std.specs.Prelude.{ℕ}
 
 -- oversize: a text over 4096 bytes, a 65th item, or a packet's item count above 64
@@ -81,6 +81,10 @@ short = 19
 -- seam: an offset of no whole minutes, on writing
 abbrev pub seam : ℕ
 seam = 20
+
+-- week: a week that its year does not have, or a day of the week outside 1 to 7
+abbrev pub week : ℕ
+week = 21
 
 -- fraction: the fraction of a text's item has a digit other than 0 after the ninth
 abbrev pub fraction : ℕ

@@ -29,6 +29,7 @@ code variant.Offset = refusal.offset
 code variant.Sum = refusal.sum
 code variant.Short = refusal.short
 code variant.Seam = refusal.seam
+code variant.Week = refusal.week
 code variant.Fraction = refusal.fraction
 
 abbrev pub outcome_of : {A : Type 0} → Result A Refusal → Outcome A

@@ -62,6 +62,8 @@ pub enum Refusal {
     Short = 19,
     // seam: an offset of no whole minutes, on writing
     Seam = 20,
+    // week: a week that its year does not have, or a day of the week outside 1 to 7
+    Week = 21,
     // fraction: the fraction of a text's item has a digit other than 0 after the ninth
     Fraction = 22,
 }
