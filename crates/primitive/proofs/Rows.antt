@@ -1,6 +1,8 @@
 -- Rows of bytes that all pass a test, and rows of digits. Assumes nothing.
 use native.Mathlib.Omega.{arith}
-use Prim.Native.Nat.{ℕ, ◌<◌}
+use Prim.Native.Nat.{ℕ, ◌<◌, ◌≤◌}
+use lib.Dec.{leb}
+use borrow.Author.Tests.{leb-true}
 use mathlib.Core.Path.{◌≡◌, refl}
 use mathlib.Core.List.{List, [], ◌∷◌}
 use mathlib.Core.Bool.{Bool, true, false, ◌&&◌}
@@ -17,6 +19,11 @@ halves false b e = let z : ◌≡◌ {A = ℕ} 0 1 = cc in absurd (omega arith)
 
 pub both : {a b : Bool} → a ≡ true → b ≡ true → a && b ≡ true
 both f g = rw (f, g)
+
+-- a digit is one of the bytes 48 to 57
+pub digit_bounds : (b : ℕ) → digit b ≡ true → (48 ≤ b) × (b ≤ 57)
+unfolding digit
+digit_bounds b h = let t = halves (leb 48 b) (leb b 57) h in (leb-true 48 b t.0, leb-true b 57 t.1)
 
 -- a row of digits, one or more
 pub record Number (ds : List ℕ) : Type 0 where

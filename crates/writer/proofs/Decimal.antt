@@ -7,23 +7,12 @@ use mathlib.Core.Path.{◌≡◌, refl, sym, ap, ◌∙◌}
 use mathlib.Core.List.{List, [], ◌∷◌, ◌++◌, append-nil}
 use mathlib.Core.Bool.{true}
 use lib.ListN.{length}
-use borrow.Author.Tests.{leb-true}
-use lib.Dec.{leb}
 use Rattle.primitive.specs.Text.{digit}
 use Rattle.primitive.specs.Primitive.{decimal}
-use Rattle.primitive.proofs.Rows.{all, halves}
+use Rattle.primitive.proofs.Rows.{all, halves, digit_bounds}
 use Rattle.primitive.proofs.Values.{grown, grown_zero, grown_none, grown_cons}
 use Rattle.writer.specs.Writer.{fixed, width_up_to, width, digits}
 use Rattle.writer.proofs.Digits.{fixed_step, width_most, width_more, digits_value, digits_length, digits_number}
-
-module _ (b : ℕ) (d : digit b ≡ true) where
-  digit_low : 48 ≤ b
-  unfolding digit
-  digit_low = let t = halves (leb 48 b) (leb b 57) d in leb-true 48 b t.0
-
-  digit_high : b ≤ 57
-  unfolding digit
-  digit_high = let t = halves (leb 48 b) (leb b 57) d in leb-true b 57 t.1
 
 -- ---- the last digits of a value
 
@@ -32,8 +21,8 @@ fixed_row : (k m : ℕ) (l : List ℕ) → all digit l ≡ true → fixed (k + l
 fixed_row k m [] h = let e : k + 0 ≡ k = omega arith in rw (e, grown_none m) (sym (append-nil (fixed k m)))
 fixed_row k m (b ∷ bs) h =
     let t = halves (digit b) (all digit bs) h in
-    let low = digit_low b t.0 in
-    let high = digit_high b t.0 in
+    let low = (digit_bounds b t.0).0 in
+    let high = (digit_bounds b t.0).1 in
     let e : k + suc (length bs) ≡ suc k + length bs = omega arith in
     let q : (m * 10 + (b - 48)) / 10 ≡ m = omega arith in
     let r : 48 + (m * 10 + (b - 48)) % 10 ≡ b = omega arith in
@@ -52,7 +41,7 @@ unfolding decimal
 below [] h = omega arith
 below (b ∷ bs) h =
     let t = halves (digit b) (all digit bs) h in
-    let c : b - 48 ≤ 9 = omega (arith, digit_high b t.0) in
+    let c : b - 48 ≤ 9 = omega (arith, (digit_bounds b t.0).1) in
     let z = mul-le-mul_right (10 ^ length bs) c in
     let y = below bs t.1 in
     rw (pow-suc 10 (length bs)) (omega arith)
@@ -95,7 +84,7 @@ pub only_digits : (b : ℕ) (bs : List ℕ) → all digit (b ∷ bs) ≡ true �
 unfolding digits
 only_digits b bs h z =
     let t = halves (digit b) (all digit bs) h in
-    let g = above b bs (omega (arith, digit_low b t.0, z)) in
+    let g = above b bs (omega (arith, (digit_bounds b t.0).0, z)) in
     let m = width_most (decimal (b ∷ bs)) (suc (length bs)) (omega arith) (below (b ∷ bs) h) in
     let n = width_more (decimal (b ∷ bs)) (length bs) g in
     let w : width (decimal (b ∷ bs)) ≡ suc (length bs) = omega arith in

@@ -29,7 +29,7 @@ all_also p q f [] h = refl
 all_also p q f (b ∷ bs) h = let t = halves (p b) (all p bs) h in rw (f b t.0) (all_also p q f bs t.1)
 
 -- ---- the last k digits
-digit_is : (n : ℕ) → digit (48 + n % 10) ≡ true
+pub digit_is : (n : ℕ) → digit (48 + n % 10) ≡ true
 unfolding digit
 digit_is n = rw (le-leb 48 (48 + n % 10) (omega arith), le-leb (48 + n % 10) 57 (omega arith))
 
