@@ -1,7 +1,7 @@
 -- The lines of an input that comes in chunks: what is answered of a chunk, and what may be dropped of a line that has not ended. Assumes
 -- nothing.
 use native.Mathlib.Omega.{arith}
-use borrow.Author.Tests.{ltb-true, ltb-false, lt-ltb, lt-leb}
+use borrow.Author.Tests.{ltb-true, ltb-false, lt-ltb}
 use Prim.Native.Nat.{ℕ, zero, suc, ◌+◌, ◌-◌, ◌<◌, ◌≤◌}
 use native.Mathlib.Nat.{sub-zero}
 use mathlib.Core.Path.{◌≡◌, refl, ◌∙◌, sym, ap}
@@ -15,6 +15,7 @@ use Rattle.extended.specs.declared.ExtendedDateTime.{ExtendedDateTime}
 use Rattle.primitive.specs.Text.{lowered}
 use Rattle.primitive.proofs.Lowered.{length_lowered}
 use Rattle.answers.specs.Placed.{Placed, refusal, placed, ◌>>◌}
+use Rattle.text_tests.proofs.Tests as tests
 use Rattle.text_general.specs.Reading.{read_parsed, read_text}
 use Rattle.line_answers.specs.Answers.{line_answer}
 use Rattle.line_chunks.specs.Lines.{in_front, lines, line_length, answers, answered, unlines, wanting, epoch, output_of, output}
@@ -28,9 +29,7 @@ too_long base = placed 0 (test base) >> refusal 1 0
 
 pub long_refused : (text : List ℕ) (base : ExtendedDateTime) → 4096 < length text → read_text text base ≡ too_long base
 unfolding read_text read_parsed
-long_refused text base h =
-    let l : 4096 < length (lowered text) = rw (length_lowered text) h in
-    rw (lt-leb (length (lowered text)) 4096 l)
+long_refused text base h = tests.too_long (lowered text) base _ (rw (length_lowered text) h)
 
 -- of a line that has not ended 4097 bytes decide its answer
 pub kept_text : (line more : List ℕ) (base : ExtendedDateTime) → read_text (take 4097 line ++ more) base ≡ read_text (line ++ more) base

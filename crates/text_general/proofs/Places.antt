@@ -4,23 +4,21 @@ use Prim.Native.Nat.{ℕ, zero, suc, ◌+◌, ◌≤◌}
 use mathlib.Core.Path.{◌≡◌, refl}
 use mathlib.Core.Bool.{Bool, true, false, cond}
 use mathlib.Core.List.{List, [], ◌∷◌, ◌++◌}
-use lib.Dec.{ltb, leb, eqb}
+use lib.Dec.{ltb, eqb}
 use lib.ListN.{length, length-append}
-use borrow.Author.Tests.{leb-true}
-use Rattle.answers.specs.Outcome.{check}
-use Rattle.extended.specs.Extended.{test}
 use Rattle.extended.specs.declared.ExtendedDateTime.{ExtendedDateTime}
 use Rattle.primitive.specs.Answer.{Answer, matched, dropped, none, stop}
-use Rattle.primitive.specs.Text.{lowered, past}
-use Rattle.primitive.proofs.Forward.{run_le}
+use Rattle.primitive.specs.Text.{lowered}
 use Rattle.primitive.specs.Primitive.{space}
 use Rattle.items.specs.Items.{Parsed, ended, further, kept, items_from, parse_item, parse_items}
 use Rattle.items.specs.declared.Item.{Item}
 use Rattle.items.proofs.Forward.{parse_item_forward}
-use Rattle.answers.specs.Placed.{fine, refusal, placed, place_of, ◌>>=◌, ◌>>◌}
+use Rattle.answers.specs.Placed.{Placed, fine, refusal, place_of, ◌>>=◌, ◌>>◌}
 use Rattle.builder.specs.Building.{build}
-use Rattle.builder.proofs.Places.{first_step, at_place, build_place}
-use Rattle.text_general.specs.Reading.{ascii, ascii_end, items_of, build_parsed, read_parsed, read_text}
+use Rattle.builder.proofs.Places.{build_place}
+use Rattle.text_tests.specs.Tests.{test_text}
+use Rattle.text_tests.proofs.Tests.{passed_tested, tests_place}
+use Rattle.text_general.specs.Reading.{items_of, build_parsed, read_parsed, read_text}
 
 -- ---- the items
 
@@ -58,10 +56,6 @@ items_end text = ends 64 [] text 0 (omega arith)
 
 -- ---- the whole
 
-ascii_low : (l : List ℕ) → ascii_end l ≤ length l
-unfolding ascii_end past
-ascii_low l = omega (arith, run_le ascii l)
-
 build_parsed_place : (text : List ℕ) (base : ExtendedDateTime) (k : ℕ) → length text ≤ k → length (parse_items text).items ≤ k → place_of (build_parsed (parse_items text) base) ≤ k
 unfolding build_parsed items_of
 build_parsed_place text base k h few = go (parse_items text) (items_end text).within few
@@ -76,13 +70,11 @@ build_parsed_place text base k h few = go (parse_items text) (items_end text).wi
 -- The place of a refusal is at most k, if the number of items is, and the length of a text that is not refused for its length.
 pub read_parsed_place : (text : List ℕ) (base : ExtendedDateTime) (k : ℕ) → (length text ≤ 4096 → length text ≤ k) → length (parse_items text).items ≤ k → place_of (read_parsed (parse_items text) text base) ≤ k
 unfolding read_parsed
-read_parsed_place text base k long few = first_step (placed 0 (test base)) _ k (omega (arith, at_place 0 (test base))) (by (leb (length text) 4096) refl)
+read_parsed_place text base k long few = by (test_text text base) refl (tests_place text base k long)
   where
-    by : (t : Bool) → leb (length text) 4096 ≡ t → place_of (placed 0 (check t 1) >> (placed (ascii_end text) (check (leb (length text) (ascii_end text)) 2) >> build_parsed (parse_items text) base)) ≤ k
-    by true e =
-        let h = long (leb-true (length text) 4096 e) in
-        first_step (placed (ascii_end text) (check (leb (length text) (ascii_end text)) 2)) _ k (omega (arith, at_place (ascii_end text) (check (leb (length text) (ascii_end text)) 2), ascii_low text)) (build_parsed_place text base k h few)
-    by false e = omega arith
+    by : (p : Placed (Unit {0})) → test_text text base ≡ p → place_of p ≤ k → place_of (p >> build_parsed (parse_items text) base) ≤ k
+    by (fine tt) e h = build_parsed_place text base k (long (passed_tested text base e).short) few
+    by (refusal n at) e h = h
 
 pub place_within : (text : List ℕ) (base : ExtendedDateTime) → place_of (read_text text base) ≤ 4096
 unfolding read_text

@@ -1,23 +1,12 @@
 -- A text read under a base: docs/SCOPE.md, 'Domain and limits' and 'The order of tests'.
-use Rattle.answers.specs.Numbers as refusal
-use Rattle.answers.specs.Limits.{max_length}
 use Rattle.items.specs.declared.Item.{Item}
-use Rattle.std.specs.Prelude.{ℕ, Bool, List, [], ltb, leb, eqb, length, cond}
-use Rattle.answers.specs.Outcome.{check}
-use Rattle.extended.specs.Extended.{test}
+use Rattle.std.specs.Prelude.{ℕ, List, [], eqb, cond}
 use Rattle.extended.specs.declared.ExtendedDateTime.{ExtendedDateTime}
-use Rattle.primitive.specs.Text.{lowered, past}
+use Rattle.primitive.specs.Text.{lowered}
 use Rattle.items.specs.Items.{Parsed, parse_items, rust_items}
-use Rattle.answers.specs.Placed.{Placed, fine, refusal, placed, ◌>>=◌, ◌>>◌}
+use Rattle.answers.specs.Placed.{Placed, fine, refusal, ◌>>=◌, ◌>>◌}
 use Rattle.builder.specs.Building.{build}
-
--- whether a byte is below 128
-unfoldable pub ascii : ℕ → Bool
-ascii b = ltb b 128
-
--- where the bytes below 128 at the front end
-unfoldable pub ascii_end : List ℕ → ℕ
-ascii_end text = past ascii text 0
+use Rattle.text_tests.specs.Tests.{test_text}
 
 -- the items, or the number and the place where their reading ended
 unfoldable pub items_of : Parsed → Placed (List Item)
@@ -32,12 +21,10 @@ build_parsed p base = do
 unfoldable pub build_text : List ℕ → ExtendedDateTime → Placed ExtendedDateTime
 build_text text base = build_parsed (parse_items text) base
 
--- the base as `new` tests it, the length, the foreign bytes, of which the first is the place of 2; then the items
+-- the first tests, then the items
 unfoldable pub read_parsed : Parsed → List ℕ → ExtendedDateTime → Placed ExtendedDateTime
 read_parsed p text base = do
-  placed 0 (test base)
-  placed 0 (check (leb (length text) max_length) refusal.oversize)
-  placed (ascii_end text) (check (leb (length text) (ascii_end text)) refusal.foreign)
+  test_text text base
   build_parsed p base
 
 unfoldable pub read_text : List ℕ → ExtendedDateTime → Placed ExtendedDateTime

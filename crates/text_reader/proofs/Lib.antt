@@ -1,3 +1,2 @@
 -- The laws of the crate `text_reader`.
 pub mod Steps
-pub mod Bytes

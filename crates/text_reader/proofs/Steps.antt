@@ -1,55 +1,28 @@
--- The laws of reading a text: what each test leaves, in the code's order. Assumes nothing.
+-- The laws of reading a text: what its tests leave. Assumes nothing.
 use borrow.Author.Rules.{rules}
-use borrow.Author.Tests.{lt-ltb, le-ltb, lt-leb, le-leb, leb-true}
-use native.Mathlib.Omega.{arith}
-use Prim.Native.Nat.{ℕ, ◌+◌, ◌<◌, ◌≤◌}
-use mathlib.Core.Path.{◌≡◌, refl, sym}
-use mathlib.Core.Bool.{Bool, true, false, ◌&&◌, cond}
-use lib.Dec.{leb, ltb}
+use Prim.Native.Nat.{ℕ}
+use mathlib.Core.Path.{◌≡◌, sym}
 use mathlib.Core.List.{List}
-use lib.ListN.{length}
-use Rattle.primitive.specs.Text.{lower, lowered}
-use Rattle.primitive.proofs.Lowered.{length_lowered, lower_above}
-use Rattle.answers.specs.Outcome.{accepted, refused}
-use Rattle.extended.specs.Extended.{test}
+use Rattle.std.specs.Prelude.{Some}
+use Rattle.primitive.specs.Text.{lowered}
+use Rattle.answers.specs.Placed.{Placed, fine, refusal}
 use Rattle.extended.specs.declared.ExtendedDateTime.{ExtendedDateTime}
-use Rattle.answers.specs.Placed.{Placed, refusal}
-use Rattle.text_general.specs.Reading.{ascii, ascii_end, build_text, read_parsed, read_text}
-
--- ---- bytes below 128
-
-pub ascii_high : (b : ℕ) → 128 ≤ b → false ≡ ascii (lower b)
-unfolding ascii
-ascii_high b h = sym (le-ltb (lower b) 128 (omega (arith, lower_above b)))
-
-pub ascii_low : (b : ℕ) → b < 128 → true ≡ ascii (lower b)
-unfolding ascii lower
-ascii_low b h = go (leb 65 b) (leb b 90) refl
-  where
-    go : (t u : Bool) → leb b 90 ≡ u → true ≡ ltb (cond (t && u) (b + 32) b) 128
-    go true true e = sym (lt-ltb (b + 32) 128 (omega (arith, leb-true b 90 e)))
-    go true false e = sym (lt-ltb b 128 h)
-    go false u e = sym (lt-ltb b 128 h)
-
--- ---- the tests
+use Rattle.text_tests.specs.Tests.{test_text}
+use Rattle.text_tests.proofs.Tests.{lowered_tests, passed_tested}
+use Rattle.text_quick.specs.Shapes.{AtOnce}
+use Rattle.text_general.specs.Reading.{build_text, read_parsed, read_text}
 
 module _ (s : List ℕ) (base : ExtendedDateTime) where
-  pub base_refused : (n : ℕ) → refused n ≡ test base → refusal n 0 ≡ read_text s base
-  unfolding read_text read_parsed build_text
-  base_refused n e = rw (← e)
+  pub tests_refused : (n at : ℕ) → refusal n at ≡ test_text s base → refusal n at ≡ read_text s base
+  unfolding read_text read_parsed
+  tests_refused n at e = rw (lowered_tests s base, ← e)
 
-  module _ (u : Unit {0}) (e : accepted u ≡ test base) where
-    pub oversize : 4096 < length s → refusal 1 0 ≡ read_text s base
+  module _ (u : Unit {0}) (e : fine u ≡ test_text s base) where
+    pub general : (r : Placed ExtendedDateTime) → r ≡ build_text (lowered s) base → r ≡ read_text s base
     unfolding read_text read_parsed build_text
-    oversize l = rw (← e, length_lowered s, lt-leb (length s) 4096 l)
+    general r q = rw (lowered_tests s base, ← e) q
 
-    module _ (l : length s ≤ 4096) (end : ℕ) (g : end ≡ ascii_end (lowered s)) where
-      pub foreign : end < length s → refusal 2 end ≡ read_text s base
-      unfolding read_text read_parsed build_text
-      foreign k = rw (← e, length_lowered s, le-leb (length s) 4096 l, ← g, lt-leb (length s) end k)
+    pub quick : (r : ExtendedDateTime) → AtOnce (lowered s) base (Some r) → fine r ≡ read_text s base
+    quick r q = general (fine r) (sym (q (passed_tested s base (sym e)).accepted_base))
 
-      pub all_read : length s ≤ end → (r : Placed ExtendedDateTime) → r ≡ build_text (lowered s) base → r ≡ read_text s base
-      unfolding read_text read_parsed build_text
-      all_read k r q = rw (← e, length_lowered s, le-leb (length s) 4096 l, ← g, le-leb (length s) end k) q
-
-pub ruleset steps = (base_refused, oversize, foreign, all_read, ascii_low, ascii_high, rules)
+pub ruleset steps = (tests_refused, general, rules)

@@ -7,7 +7,7 @@ use Rattle.items.specs.declared.Item.TheVariants as item
 use Rattle.items.specs.Items.{parse_items}
 use Rattle.packet_fields.specs.Fields.{fields_of, in_range, digits_used}
 use Rattle.packet_fields.specs.declared.Fields.{Fields}
-use Rattle.text_general.specs.Reading.{ascii_end}
+use Rattle.text_tests.specs.Tests.{ascii_end}
 use Rattle.theorems_packets.specs.Writing.{amounts, packet}
 
 -- a row of bytes

@@ -1,31 +1,29 @@
 -- Which texts are answered with 22, on the calls of hosts: exactly the admitted ones in which one of the first 64 items that the Rust reads
 -- loses a digit, at the end of the item before. All others are answered as the Rust reads them: as the same readers answer where lost digits are
 -- ignored. Assumes nothing.
-use borrow.Author.Tests.{leb-true, le-leb}
-use native.Mathlib.Omega.{arith}
 use Prim.Native.Nat.{ℕ}
 use mathlib.Core.Path.{◌≡◌, refl, ap}
-use mathlib.Core.List.{List, []}
+use mathlib.Core.List.{List, [], ◌∷◌}
 use mathlib.Core.Bool.{Bool, true, false, cond}
-use lib.Dec.{leb, eqb}
-use lib.ListN.{length}
-use Rattle.answers.specs.Outcome.{Outcome, accepted, refused, check}
-use Rattle.extended.specs.Extended.{test}
-use Rattle.answers.specs.Placed.{Placed, fine, refusal, placed, number_of, place_of, ◌>>◌, ◌>>=◌}
+use lib.Dec.{eqb}
+use Rattle.answers.specs.Placed.{Placed, fine, refusal, number_of, place_of, ◌>>◌, ◌>>=◌}
 use Rattle.extended.specs.declared.ExtendedDateTime.{ExtendedDateTime}
 use Rattle.primitive.specs.Text.{lowered}
 use Rattle.items.specs.Items.{Parsed, parse_items}
 use Rattle.theorems_round_trip.specs.Promises.{Admitted, LosesAt}
 use Rattle.theorems_forms.proofs.DroppedItems.{Refused, drops_refused, refused_drops}
 use Rattle.builder.specs.Building.{build}
-use Rattle.text_general.specs.Reading.{ascii_end, items_of, build_parsed, read_parsed, read_text, rust_text}
+use Rattle.text_tests.specs.Tests.{test_text}
+use Rattle.text_tests.proofs.Tests.{base_alone, passed_tested}
+use Rattle.text_general.specs.Reading.{items_of, build_parsed, read_parsed, read_text, rust_text}
 use Rattle.text_general.proofs.Theorems.{same_text}
 use Rattle.host_answers.specs.Hosts.{placed_answer}
 use Rattle.host_answers.specs.declared.Answer.{Answer}
 use Rattle.host_calls.specs.Given.{record_numbers}
 use Rattle.host_calls.specs.Calls.{answer, ReadText}
-use Rattle.theorems_round_trip.proofs.Refusals.{Numbered, given, not_in, not_among, test_numbered}
+use Rattle.theorems_round_trip.proofs.Refusals.{wider, Among, not_among, test_numbered}
 use Rattle.theorems_round_trip.proofs.BuildRefusals.{build_among}
+use Rattle.theorems_round_trip.proofs.TextRefusals.{tests_among}
 
 -- ---- the items
 
@@ -45,29 +43,27 @@ module _ (base : ExtendedDateTime) where
 
 -- ---- the calls
 
+-- the numbers of the tests before the items
+abbrev test_numbers : List ℕ
+test_numbers = 1 ∷ (2 ∷ record_numbers)
+
 module _ (text : List ℕ) (base : ExtendedDateTime) where
   text_22 : (p : ℕ) → Admitted text base → LosesAt text p → read_text text base ≡ refusal 22 p
   unfolding read_text read_parsed
-  text_22 p h d =
-      rw (h.accepted_base, le-leb (length (lowered text)) 4096 h.short, le-leb (length (lowered text)) (ascii_end (lowered text)) h.ascii)
-      (parsed_22 base (parse_items (lowered text)) p (drops_refused (lowered text) p d))
+  text_22 p h d = rw (base_alone (lowered text) base h.short h.ascii, h.accepted_base) (parsed_22 base (parse_items (lowered text)) p (drops_refused (lowered text) p d))
 
   only_text : number_of (read_text text base) ≡ 22 → Admitted text base × LosesAt text (place_of (read_text text base))
   unfolding read_text read_parsed
-  only_text = go (test base) refl (test_numbered base) (leb (length (lowered text)) 4096) refl (leb (length (lowered text)) (ascii_end (lowered text))) refl
+  only_text = go (test_text (lowered text) base) refl (tests_among (lowered text) base (wider test_numbers refl (test_numbered base)) refl refl)
     where
-      tail : Bool → Bool → Placed ExtendedDateTime
-      tail s t = placed 0 (check s 1) >> (placed (ascii_end (lowered text)) (check t 2) >> build_parsed (parse_items (lowered text)) base)
+      items : Placed ExtendedDateTime
+      items = build_parsed (parse_items (lowered text)) base
 
-      go : (o : Outcome (Unit {0})) → test base ≡ o → Numbered record_numbers o → (s : Bool) → leb (length (lowered text)) 4096 ≡ s → (t : Bool) → leb (length (lowered text)) (ascii_end (lowered text)) ≡ t
-          → number_of (placed 0 o >> tail s t) ≡ 22 → Admitted text base × LosesAt text (place_of (placed 0 o >> tail s t))
-      go (accepted u) e n true f true g h = (
-        record { accepted_base = e; short = leb-true (length (lowered text)) 4096 f; ascii = leb-true (length (lowered text)) (ascii_end (lowered text)) g },
-        refused_drops (lowered text) _ (only_parsed base (parse_items (lowered text)) h),
-      )
-      go (accepted u) e n true f false g h = absurd (omega arith)
-      go (accepted u) e n false f t g h = absurd (omega arith)
-      go (refused k) e n s f t g h = absurd (not_in record_numbers k 22 refl (given n) h)
+      go : (p : Placed (Unit {0})) → test_text (lowered text) base ≡ p → Among test_numbers p → number_of (p >> items) ≡ 22 → Admitted text base × LosesAt text (place_of (p >> items))
+      go (fine tt) e a h =
+          let t = passed_tested (lowered text) base e in
+          (record { accepted_base = t.accepted_base; short = t.short; ascii = t.ascii }, refused_drops (lowered text) _ (only_parsed base (parse_items (lowered text)) h))
+      go (refusal n at) e a h = absurd (not_among 22 refl a h)
 
   -- what `seqtullo_read_text` returns
   abbrev answered : Answer

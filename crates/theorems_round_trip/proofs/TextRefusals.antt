@@ -25,8 +25,9 @@ use Rattle.items.specs.declared.Item.{Item}
 use Rattle.items.specs.declared.Item.TheVariants as item
 use Rattle.builder.specs.Building.{build}
 use Rattle.host_calls.specs.Given.{has, record_numbers, text_numbers}
+use Rattle.text_tests.specs.Tests.{test_text}
 use Rattle.text_general.specs.Reading.{items_of, build_parsed, read_parsed, read_text}
-use Rattle.theorems_round_trip.proofs.Refusals.{Numbered, by_number, covers, Among, a_refusal, step_then, placed_among, among_wider, check_numbered, has_covers, test_numbered}
+use Rattle.theorems_round_trip.proofs.Refusals.{Numbered, by_number, covers, wider, Among, a_refusal, step_then, placed_among, among_wider, check_numbered, has_covers, test_numbered}
 use Rattle.theorems_round_trip.proofs.BuildRefusals.{Texted, a_date, a_time, a_date_time, a_relative, AllTexted, no_item, an_item, text_build_among}
 
 -- ---- the items of a text
@@ -92,16 +93,19 @@ parsed_among p base h = go (eqb p.number 0) refl
 items_among : (text : List ℕ) (base : ExtendedDateTime) → Among text_numbers (build_parsed (parse_items text) base)
 items_among text base = parsed_among (parse_items text) base (reading_text text)
 
+-- the tests before the items, by the numbers of the base's test
+pub tests_among : {g : List ℕ} (text : List ℕ) (base : ExtendedDateTime) → Numbered g (test base) → has g refusal.oversize ≡ true → has g refusal.foreign ≡ true → Among g (test_text text base)
+unfolding test_text
+tests_among text base n one two = step_then (placed_among 0 n) (step_then (placed_among 0 (check_numbered _ 1 one)) (placed_among _ (check_numbered _ 2 two)))
+
 -- Whatever the text and the base: the answer's number is 0 or one of these.
 pub text_among : (text : List ℕ) (base : ExtendedDateTime) → Among text_numbers (read_text text base)
 unfolding read_text read_parsed
-text_among text base =
-    step_then (among_wider text_numbers refl (placed_among 0 (test_numbered base)))
-    (step_then (placed_among 0 (check_numbered _ 1 refl)) (step_then (placed_among _ (check_numbered _ 2 refl)) (items_among (lowered text) base)))
+text_among text base = step_then (tests_among (lowered text) base (wider text_numbers refl (test_numbered base)) refl refl) (items_among (lowered text) base)
 
 -- A base that is refused gives its own refusal, so it is enough to bound the answers under an accepted one.
 pub any_base : (g : List ℕ) → covers record_numbers g ≡ true → (text : List ℕ) (base : ExtendedDateTime) → (test base ≡ accepted tt → Among g (read_text text base)) → Among g (read_text text base)
-unfolding read_text read_parsed
+unfolding read_text read_parsed test_text
 any_base g c text base h = go (test base) refl (test_numbered base)
   where
     go : (o : Outcome (Unit {0})) → test base ≡ o → Numbered record_numbers o → Among g (read_text text base)

@@ -1,7 +1,7 @@
 -- A written record's text, alone and with seconds behind it, read under any base. Assumes nothing.
 use Rattle.items.specs.declared.Item.{Item}
 use native.Mathlib.Omega.{arith}
-use borrow.Author.Tests.{le-leb, leb-true, lt-ltb}
+use borrow.Author.Tests.{leb-true, lt-ltb}
 use native.Mathlib.Nat.{zero-add}
 use Prim.Native.Nat.{ℕ, ◌^◌, ◌<◌, ◌≤◌}
 use mathlib.Core.Path.{◌≡◌, ◌∙◌}
@@ -25,7 +25,9 @@ use Rattle.builder.specs.Building.{build}
 use Rattle.writer.specs.Writer.{digits, whole_minutes, text_of}
 use Rattle.writer.proofs.Digits.{all_join, all_also, digits_value, digits_number, digits_length, width_most}
 use Rattle.writer.proofs.Texts.{text_long, text_ascii, text_lowered}
-use Rattle.text_general.specs.Reading.{ascii, ascii_end, items_of, build_parsed, read_parsed, read_text}
+use Rattle.text_tests.specs.Tests.{ascii, ascii_end}
+use Rattle.text_tests.proofs.Tests.{base_alone}
+use Rattle.text_general.specs.Reading.{items_of, build_parsed, read_parsed, read_text}
 use Rattle.theorems_round_trip.proofs.Written.{digits_of, text_is, both_of, sound, item_is}
 use Rattle.theorems_round_trip.proofs.Built.{built_alone, built_moved}
 
@@ -58,7 +60,7 @@ shift_length minus n h = simp (length-append, digits_length) (omega (arith, widt
 -- a text that passes the first tests is read by its items
 passes : (l : List ℕ) (base : ExtendedDateTime) (xs : List Item) → test base ≡ accepted tt → lowered l ≡ l → length l ≤ 4096 → all (λ b. ltb b 128) l ≡ true → parse_items l ≡ ended xs 0 0 → read_text l base ≡ build [] xs base
 unfolding read_text read_parsed build_parsed items_of
-passes l base xs tb low short small read = rw (low, tb, le-leb (length l) 4096 short, ascii_all l small, le-leb (length l) (length l) (omega arith), read)
+passes l base xs tb low short small read = rw (low, base_alone l base short (omega (arith, ascii_all l small)), tb, read)
 
 module _ (base r : ExtendedDateTime) (tb : test base ≡ accepted tt) (tr : test r ≡ accepted tt) (whole : whole_minutes r.offset_seconds ≡ true) where
   pub read_alone : read_text (text_of r) base ≡ fine r

@@ -6,7 +6,7 @@ use Rattle.extended.specs.Extended.{Recorded, blank_record, test, moment}
 use Rattle.extended.specs.declared.ExtendedDateTime.{ExtendedDateTime}
 use Rattle.primitive.specs.Text.{bytes, lowered}
 use Rattle.theorems_forms.specs.Fractions.{Drops}
-use Rattle.text_general.specs.Reading.{ascii_end}
+use Rattle.text_tests.specs.Tests.{ascii_end}
 use Rattle.writer.specs.Writer.{digits, sign_of, whole_minutes}
 use Rattle.writer.specs.declared.Written.{Written}
 use Rattle.host_answers.specs.declared.Answer.{Answer}

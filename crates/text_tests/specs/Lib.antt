@@ -1,0 +1,2 @@
+-- The definitions of the crate `text_tests`.
+pub mod Tests
