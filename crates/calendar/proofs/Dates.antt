@@ -8,7 +8,7 @@ use lib.Dec.{ltb}
 use borrow.Author.Tests.{ltb-true, ltb-false}
 use Rattle.calendar.specs.declared.Civil.{Civil}
 use Rattle.calendar.specs.Calendar.{month_days, days_before_year, days_of_months, day_number, Valid, ymd, next_day, civil}
-use Rattle.calendar.proofs.Counting.{month_bounds, months_none, years_none, months_le, years_le, months_of_year, months_step, year_step}
+use Rattle.calendar.proofs.Counting.{month_bounds, months_none, years_none, months_le, years_le, year_lt, months_of_year, months_step, year_step}
 
 -- the day number of a date
 abbrev pub day_of : Civil ℕ → ℕ
@@ -134,3 +134,15 @@ back t v = let w = place (day_of t) in unique (civil (day_of t)) t w.0 v w.1
 
 pub the_date : (t : Civil ℕ) (n : ℕ) → Valid t → day_of t ≡ n → t ≡ civil n
 the_date t n v e = sym (back t v) ∙ ap civil e
+
+-- ---- the year of a day
+pub between : (n : ℕ) → (days_before_year (civil n).year ≤ n) × (n < days_before_year ((civil n).year + 1))
+unfolding day_number
+between n = let w = place n in let h = in_year (civil n) w.0 in (omega (arith, w.1), omega (arith, w.1, h))
+
+-- it is the only one that has the day
+pub year_at : (n y : ℕ) → days_before_year y ≤ n → n < days_before_year (y + 1) → (civil n).year ≡ y
+year_at n y h k =
+    let b = between n in
+    let c = (civil n).year in
+    le_antisymm (omega (arith, year_lt c (y + 1) (omega (arith, b.0)))) (omega (arith, year_lt y (c + 1) (omega (arith, b.1))))

@@ -3,8 +3,12 @@
 // Numbers are widened by `as` in sums and products, where `from` in each term is no plainer. That each cast that narrows fits is proved.
 #![tactic(auto)]
 
+mod cycle;
+
 ghost use Rattle.std.specs.Prelude.{◌≡◌, ◌+◌, ◌-◌, ◌<◌, ◌≤◌};
 ghost use Rattle.calendar.specs.Calendar.{leap, month_days, days_before_year, year_days, days_of_months, day_number, Valid, ymd, civil};
+
+pub use cycle::first_day;
 
 pub fn is_leap_year(year: u32) -> bool
     ensures { result ≡ leap year }
@@ -79,6 +83,29 @@ pub fn civil_from_days(days: u64) -> Civil<u64>
     let date = date_in_year(year_of_block, day_of_year);
     Civil {
         year: days / 146097 * 400 + year_of_block as u64,
+        month: date.month,
+        day: date.day,
+    }
+}
+
+// The days that every year has; some have one more.
+const DAYS: u64 = 365;
+
+// The same date, found at once where it is one of the first 365 days of `year`.
+pub fn civil_from_days_near(days: u64, year: u32) -> Civil<u64>
+    ensures { result ≡ civil days }
+{
+    let first = first_day(year);
+    if days < first {
+        return civil_from_days(days);
+    }
+    let day = days - first;
+    if DAYS <= day {
+        return civil_from_days(days);
+    }
+    let date = date_in_year(year, day as u32);
+    Civil {
+        year: year as u64,
         month: date.month,
         day: date.day,
     }

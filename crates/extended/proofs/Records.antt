@@ -73,7 +73,7 @@ pub record Accepted (r : ExtendedDateTime) : Type 0 where
 both : (a b c d : ℕ) → (leb a b && leb c d) ≡ true → (a ≤ b) × (c ≤ d)
 both a b c d e = (leb-true a b (and_left (leb a b) (leb c d) e), leb-true c d (and_right (leb a b) (leb c d) e))
 
-date_facts : (d : Civil ℕ) → test_date d ≡ accepted tt → Valid (ymd d.year d.month d.day) × (d.year ≤ 2147485547)
+pub date_facts : (d : Civil ℕ) → test_date d ≡ accepted tt → Valid (ymd d.year d.month d.day) × (d.year ≤ 2147485547)
 unfolding test_date
 date_facts d e =
     let a = first_passed (check (year_ok d) 9) (check (month_ok d) 11 >> check (day_ok d) 12) e in
@@ -112,7 +112,7 @@ facts r e =
     }
 
 -- and back
-date_test : (d : Civil ℕ) → Valid (ymd d.year d.month d.day) → d.year ≤ 2147485547 → test_date d ≡ accepted tt
+pub date_test : (d : Civil ℕ) → Valid (ymd d.year d.month d.day) → d.year ≤ 2147485547 → test_date d ≡ accepted tt
 unfolding test_date
 date_test d v h =
     simp (le-leb d.year 2147485547 h, le-leb 1 d.month v.month_low, le-leb d.month 12 v.month_high, le-leb 1 d.day v.day_low, le-leb d.day (month_days d.year d.month) v.day_high)

@@ -150,7 +150,7 @@ pub fn from_parts(date: DateParts, time: TimeParts, offset_seconds: i32) -> Exte
 
 // The tests of `new`, in its order.
 #[tactic(auto, unfolding(crate::specs::Extended::test_date), using(calendar::proofs::Counting::month_bounds))]
-fn test_date(date: DateParts) -> Result<(), Refusal>
+pub fn test_date(date: DateParts) -> Result<(), Refusal>
     ensures { outcome_of result ≡ test_date date }
 {
     if date.year > GNU_MAX_YEAR {
