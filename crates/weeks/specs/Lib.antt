@@ -1,0 +1,2 @@
+-- The definitions of the crate `weeks`.
+pub mod Weeks
