@@ -1,0 +1,3 @@
+-- The laws of the crate `text_profile`.
+pub mod Forms
+pub mod Places
