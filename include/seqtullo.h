@@ -20,7 +20,7 @@ extern "C" {
 #endif
 
 /* The release of this header and of the library beside it: CHANGELOG.md. */
-#define SEQTULLO_VERSION "2.1.0"
+#define SEQTULLO_VERSION "2.2.0"
 
 /* The answers by number. */
 enum {
@@ -44,7 +44,7 @@ enum {
     SEQTULLO_SUM = 18,        /* a sum or product that leaves an i64, nanoseconds that leave a u32, or days to a weekday that leave an i32 */
     SEQTULLO_SHORT = 19,      /* the place to write to is shorter than the text */
     SEQTULLO_SEAM = 20,       /* the offset is not whole minutes, on writing */
-    /* no answer has number 21 */
+    SEQTULLO_WEEK = 21,       /* a week that its year does not have, or a day of the week outside 1 to 7 */
     SEQTULLO_FRACTION = 22    /* the fraction of a text's item has a digit other than 0 after the ninth; place: where the item before ended */
 };
 
@@ -97,6 +97,15 @@ struct seqtullo_written {
    the base's where the text has none. After a time, a sign with a number is its offset: put a shift first (docs/TEXTS.md, 'To be careful with').
    A fraction of a second may have any number of digits, but those after the ninth must be 0. */
 struct seqtullo_answer seqtullo_read_text(const uint8_t *text, size_t text_length, struct seqtullo_record base);
+
+/* Reads a date as partner hosts exchange it (ISO 8601), and nothing else: `YYYY-MM-DD`, or `YYYY-Www-D` with the week and its day, 1 for Monday to 7
+   (seqtullo_weekday's value plus 1). The year has four digits, as they stand: 0068 is year 68. The W is upper case. The length counts no line
+   end and no terminating NUL. The record is midnight of that day at the base's offset. Week 1 is that of the year's first Thursday, so 2020-W53-5
+   is 2021-01-01. 9999-W52-6 and 9999-W52-7 are the first two days of year 10000; 0000-01-01 and 0000-01-02 have no week date.
+   The tests come in this order: the base; 1 for more than 4096 bytes; 2 at the first byte of 128 or more; 3 at place 0 if the text has neither
+   form; 11 or 12 for a month or day that does not exist, or 21 for a week or its day. A refused base gives its own number, which may be 11 or 12.
+   No function writes a week date. Up to year 9999 the first ten bytes that seqtullo_write writes are the plain date. */
+struct seqtullo_answer seqtullo_read_profile(const uint8_t *text, size_t text_length, struct seqtullo_record base);
 
 /* The bytes of a packet's header and of an item. */
 #define SEQTULLO_PACKET_HEADER 8

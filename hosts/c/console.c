@@ -13,9 +13,9 @@ static const char *word(uint32_t number)
 {
     static const char *const words[] = {
         "accepted", "oversize", "foreign", "unread", "stopped", "packet", "twice", "rival", "pure", "over", "under",
-        "month", "day", "hour", "minute", "second", "nanosecond", "offset", "sum", "short", "seam", [SEQTULLO_FRACTION] = "fraction",
+        "month", "day", "hour", "minute", "second", "nanosecond", "offset", "sum", "short", "seam", "week", "fraction",
     };
-    return number < sizeof words / sizeof *words && words[number] ? words[number] : "?";
+    return number < sizeof words / sizeof *words ? words[number] : "?";
 }
 
 static void show_refusal(const char *text, struct seqtullo_answer a)

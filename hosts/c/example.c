@@ -26,6 +26,7 @@ int main(void)
     struct seqtullo_answer base = seqtullo_new(2024, 3, 13, 9, 30, 0, 0, 0);
     for (size_t i = 0; i < sizeof texts / sizeof *texts; i++)
         show(texts[i], seqtullo_read_text((const uint8_t *)texts[i], strlen(texts[i]), base.record));
+    show("2020-W53-5", seqtullo_read_profile((const uint8_t *)"2020-W53-5", 10, base.record));
     show("last Monday", seqtullo_read_packet(last_monday, sizeof last_monday, base.record));
     return 0;
 }

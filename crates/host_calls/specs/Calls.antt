@@ -5,6 +5,7 @@ use Rattle.std.specs.Prelude.{ℕ, ℤ, List, length, ◌≡◌}
 use Rattle.extended.specs.Extended.{make, date, time, accept, from_unix_seconds, unix_seconds, add_days, add_hours, add_minutes, add_seconds, add_years, add_months, weekday_monday0, day_of_year}
 use Rattle.extended.specs.declared.ExtendedDateTime.{ExtendedDateTime}
 use Rattle.text_general.specs.Reading.{read_text}
+use Rattle.text_profile.specs.Profile.{read_profile}
 use Rattle.packet.specs.Packet.{read_packet}
 use Rattle.writer.specs.Writer.{written, bytes_of, written_answer, over}
 use Rattle.writer.specs.declared.Written.{Written}
@@ -26,6 +27,7 @@ pub data Call : Type 0 where
   AddYears : ExtendedDateTime → (years : ℤ) → Call
   AddMonths : ExtendedDateTime → (months : ℤ) → Call
   ReadText : (text : List ℕ) → (base : ExtendedDateTime) → Call
+  ReadProfile : (text : List ℕ) → (base : ExtendedDateTime) → Call
   ReadPacket : (packet : List ℕ) → (base : ExtendedDateTime) → Call
 
 abbrev pub answer : Call → Answer
@@ -38,6 +40,7 @@ answer (AddSeconds r n k) = record_answer (add_seconds r n k)
 answer (AddYears r n) = record_answer (add_years r n)
 answer (AddMonths r n) = record_answer (add_months r n)
 answer (ReadText text base) = placed_answer (read_text text base)
+answer (ReadProfile text base) = placed_answer (read_profile text base)
 answer (ReadPacket packet base) = placed_answer (read_packet packet base)
 
 -- ---- the others

@@ -3,7 +3,7 @@
 use Rattle.answers.specs.Numbers as refusal
 use Rattle.answers.specs.Limits.{most_items}
 use Rattle.std.specs.Prelude.{ℕ, Bool, false, ◌||◌, List, [], ◌∷◌, eqb, length}
-use Rattle.host_calls.specs.Calls.{Question, Weekday, DayOfYear, Call, New, FromUnixSeconds, AddDays, AddHours, AddMinutes, AddSeconds, AddYears, AddMonths, ReadText, ReadPacket}
+use Rattle.host_calls.specs.Calls.{Question, Weekday, DayOfYear, Call, New, FromUnixSeconds, AddDays, AddHours, AddMinutes, AddSeconds, AddYears, AddMonths, ReadText, ReadProfile, ReadPacket}
 
 -- whether a number is in a list
 abbrev pub has : List ℕ → ℕ → Bool
@@ -26,12 +26,19 @@ sum_numbers = refusal.under ∷ refusal.sum ∷ record_numbers
 abbrev pub text_numbers : List ℕ
 text_numbers = refusal.oversize ∷ refusal.foreign ∷ refusal.unread ∷ refusal.stopped ∷ refusal.fraction ∷ refusal.twice ∷ sum_numbers
 
+-- A text of the profile is a date alone: 11 and 12 are of a plain date or of the base, 21 is of a week date, and 9, 13 to 17 are the base's.
+abbrev pub profile_numbers : List ℕ
+profile_numbers = refusal.oversize ∷ refusal.foreign ∷ refusal.unread ∷ refusal.week ∷ record_numbers
+
 abbrev pub packet_numbers : List ℕ
 packet_numbers = refusal.oversize ∷ refusal.packet ∷ refusal.twice ∷ refusal.rival ∷ refusal.pure ∷ sum_numbers
 
 -- a text under an accepted base: 12 for 29 February in a base's year that has none; 9, 10 and 18 for sums
 abbrev pub text_numbers_accepted : List ℕ
 text_numbers_accepted = refusal.oversize ∷ refusal.foreign ∷ refusal.unread ∷ refusal.stopped ∷ refusal.fraction ∷ refusal.twice ∷ refusal.over ∷ refusal.under ∷ refusal.day ∷ refusal.sum ∷ []
+
+abbrev pub profile_numbers_accepted : List ℕ
+profile_numbers_accepted = refusal.oversize ∷ refusal.foreign ∷ refusal.unread ∷ refusal.month ∷ refusal.day ∷ refusal.week ∷ []
 
 -- a packet under an accepted base: 16 too, since the nanosecond of its seconds is any u32; 9 for a pure year as well
 abbrev pub packet_numbers_accepted : List ℕ
@@ -50,6 +57,7 @@ numbers (AddSeconds r n k) = sum_numbers
 numbers (AddYears r n) = sum_numbers
 numbers (AddMonths r n) = sum_numbers
 numbers (ReadText text base) = text_numbers
+numbers (ReadProfile text base) = profile_numbers
 numbers (ReadPacket packet base) = packet_numbers
 
 -- The numbers whose refusals have a place. That the place of any other number is 0 is proved in theorems_hosts, proofs/PlaceByNumber.antt.
@@ -67,6 +75,7 @@ place_limit (AddSeconds r n k) = 0
 place_limit (AddYears r n) = 0
 place_limit (AddMonths r n) = 0
 place_limit (ReadText text base) = length text
+place_limit (ReadProfile text base) = length text
 place_limit (ReadPacket packet base) = most_items
 
 -- the numbers that a question is answered with: from Monday, 0, to Sunday, 6; and the days of a year

@@ -6,7 +6,7 @@ ghost use Rattle.std.specs.Prelude.{◌≡◌, ◌≤◌};
 ghost use Rattle.answers.specs.Placed.{place_of};
 ghost use Rattle.answers.specs.Refusals.{placed_of};
 ghost use Rattle.host_answers.specs.Hosts.{placed_answer};
-ghost use Rattle.host_calls.specs.Calls.{answer, ReadText, ReadPacket};
+ghost use Rattle.host_calls.specs.Calls.{answer, ReadText, ReadProfile, ReadPacket};
 
 use answers::PlacedRefusal;
 use extended::ExtendedDateTime;
@@ -39,6 +39,15 @@ pub fn read_text(text: &[u8], base: Record) -> Answer
     ensures text_after { text.exit.now ≡ text.entry.now }
 {
     placed_answer(text_reader::read_text(text, base))
+}
+
+// Reads a text of the interchange profile under a base.
+#[tactic(auto, using(text_profile::proofs::Places::place_within))]
+pub fn read_profile(text: &[u8], base: Record) -> Answer
+    ensures answered { result ≡ answer (ReadProfile text.now base) }
+    ensures text_after { text.exit.now ≡ text.entry.now }
+{
+    placed_answer(text_profile::read_profile(text, base))
 }
 
 // Reads a packet under a base.

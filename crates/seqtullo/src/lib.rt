@@ -5,7 +5,7 @@
 
 ghost use Rattle.std.specs.Prelude.{◌≡◌};
 ghost use Rattle.extended.specs.Calendar.{month_days};
-ghost use Rattle.host_calls.specs.Calls.{answer, New, FromUnixSeconds, AddDays, AddHours, AddMinutes, AddSeconds, AddYears, AddMonths, ReadText, ReadPacket, moment_of, number_of, Weekday, DayOfYear, Wrote};
+ghost use Rattle.host_calls.specs.Calls.{answer, New, FromUnixSeconds, AddDays, AddHours, AddMinutes, AddSeconds, AddYears, AddMonths, ReadText, ReadProfile, ReadPacket, moment_of, number_of, Weekday, DayOfYear, Wrote};
 
 use host_answers::{Answer, Moment, Number, Record};
 use writer::Written;
@@ -123,6 +123,15 @@ pub extern "C" fn seqtullo_read_text(text: &[u8], base: Record) -> Answer
     ensures text_after { text.exit.now ≡ text.entry.now }
 {
     host_calls::read_text(text, base)
+}
+
+// Reads a text of the interchange profile under a base.
+#[unsafe(no_mangle)]
+pub extern "C" fn seqtullo_read_profile(text: &[u8], base: Record) -> Answer
+    ensures answered { result ≡ answer (ReadProfile text.now base) }
+    ensures text_after { text.exit.now ≡ text.entry.now }
+{
+    host_calls::read_profile(text, base)
 }
 
 // Reads a packet under a base.

@@ -10,6 +10,15 @@
 //! # Ok::<(), seqtullo::Refusal>(())
 //! ```
 //!
+//! Partner hosts send dates of ISO 8601, week dates among them.
+//!
+//! ```
+//! let base = seqtullo::Record::new(2024, 3, 13, 9, 30, 0, 0, 0)?;
+//! let end = seqtullo::read_profile("2020-W53-5", base)?;
+//! assert_eq!(end.write()?.as_str(), "2021-01-01 00:00:00.000000000+00:00");
+//! # Ok::<(), seqtullo::Refusal>(())
+//! ```
+//!
 //! Items that a host already has come as a packet. Weekdays, zones and pure numbers are read from packets alone.
 //!
 //! ```
@@ -78,10 +87,9 @@ pub struct Refusal {
 impl Refusal {
     /// The word of the table of answers.
     pub fn word(self) -> &'static str {
-        // no answer has number 21
         const WORDS: [&str; 23] = [
             "accepted", "oversize", "foreign", "unread", "stopped", "packet", "twice", "rival", "pure", "over", "under", "month", "day",
-            "hour", "minute", "second", "nanosecond", "offset", "sum", "short", "seam", "unknown", "fraction",
+            "hour", "minute", "second", "nanosecond", "offset", "sum", "short", "seam", "week", "fraction",
         ];
         WORDS.get(self.number as usize).copied().unwrap_or("unknown")
     }
@@ -152,6 +160,29 @@ pub fn read_text(text: impl AsRef<[u8]>, base: Record) -> Result<Record, Refusal
     let text = text.as_ref();
     // The pointer and the length are those of one slice, which is only read.
     record(unsafe { raw::seqtullo_read_text(text.as_ptr(), text.len(), base) })
+}
+
+/// Reads a date as partner hosts exchange it, and nothing else: `YYYY-MM-DD` or the week date `YYYY-Www-D` of ISO 8601. The year has four digits
+/// and the `W` is upper case; strip a line end first. The record is midnight of that day at the base's offset.
+///
+/// A refusal has, in the order of the tests, the base's number; 1; 2 at the first byte of 128 or more; 3 for a text of neither form; 11 or 12 for a
+/// month or day that does not exist, or 21 for a week or its day. The base's number may be 11 or 12 too.
+///
+/// ```
+/// let base = seqtullo::Record::new(2024, 3, 13, 9, 30, 0, 0, 0)?;
+/// let end = seqtullo::read_profile("2020-W53-5", base)?;
+/// assert_eq!(end.write()?.as_str(), "2021-01-01 00:00:00.000000000+00:00");
+///
+/// let refused = seqtullo::read_profile("2021-W53-5", base).unwrap_err();
+/// assert_eq!((refused.number, refused.to_string().as_str()), (21, "week"));
+/// let refused = seqtullo::read_profile("2020-w53-5", base).unwrap_err();
+/// assert_eq!((refused.number, refused.to_string().as_str()), (3, "unread at byte 0"));
+/// # Ok::<(), seqtullo::Refusal>(())
+/// ```
+pub fn read_profile(text: impl AsRef<[u8]>, base: Record) -> Result<Record, Refusal> {
+    let text = text.as_ref();
+    // The pointer and the length are those of one slice, which is only read.
+    record(unsafe { raw::seqtullo_read_profile(text.as_ptr(), text.len(), base) })
 }
 
 /// Reads a packet under a base. [`PacketBuilder`] makes one.
@@ -273,6 +304,32 @@ mod tests {
         let unlike = Record { month: 13, ..base() };
         assert_eq!(read_text("", unlike).unwrap_err().word(), "month");
         assert_eq!(Record { offset_seconds: 30, ..base() }.write().unwrap_err().word(), "seam");
+    }
+
+    fn profile(text: &str) -> String {
+        match read_profile(text, base()) {
+            Ok(r) => r.write().unwrap().to_string(),
+            Err(refusal) => refusal.to_string(),
+        }
+    }
+
+    #[test]
+    fn profiles() {
+        assert_eq!(profile("2024-03-13"), "2024-03-13 00:00:00.000000000+00:00");
+        assert_eq!(profile("0068-01-01"), "0068-01-01 00:00:00.000000000+00:00");
+        assert_eq!(profile("2024-W11-3"), "2024-03-13 00:00:00.000000000+00:00");
+        assert_eq!(profile("0000-W01-1"), "0000-01-03 00:00:00.000000000+00:00");
+        assert_eq!(profile("9999-W52-7"), "10000-01-02 00:00:00.000000000+00:00");
+        assert_eq!(profile("2024-W11-8"), "week");
+        assert_eq!(profile("2024-13-01"), "month");
+        assert_eq!(profile("2023-02-29"), "day");
+        assert_eq!(profile("2024-13-4x"), "unread at byte 0");
+        assert_eq!(profile(""), "unread at byte 0");
+        assert_eq!(profile(&"0".repeat(4097)), "oversize");
+        assert_eq!(read_profile(*b"2024-03-13\xc8", base()), Err(Refusal { number: 2, place: 10 }));
+        let west = Record { offset_seconds: -19800, ..base() };
+        assert_eq!(read_profile("2020-W53-5", west), Record::new(2021, 1, 1, 0, 0, 0, 0, -19800));
+        assert_eq!(read_profile("2020-W53-5", Record { hour: 24, ..base() }).unwrap_err().word(), "hour");
     }
 
     #[test]

@@ -29,6 +29,7 @@ pub struct Written {
 
 extern "C" {
     pub fn seqtullo_read_text(text: *const u8, length: usize, base: Record) -> Answer;
+    pub fn seqtullo_read_profile(text: *const u8, length: usize, base: Record) -> Answer;
     pub fn seqtullo_read_packet(packet: *const u8, length: usize, base: Record) -> Answer;
     pub fn seqtullo_write(record: Record, out: *mut u8, length: usize) -> Written;
     pub fn seqtullo_new(year: u32, month: u8, day: u8, hour: u8, minute: u8, second: u8, nanosecond: u32, offset_seconds: i32) -> Answer;
