@@ -1,8 +1,12 @@
--- Which numbers a text and a packet can get under an accepted base: fewer than `one_answer` (proofs/Theorems.antt) names, which also counts those
+-- Which numbers a text, one of the profile and a packet can get under an accepted base: fewer than `one_answer` (proofs/Theorems.antt) names, which also counts those
 -- of a refused base. Of 11 to 17 a text can get 12, a packet 12 and 16. Assumes nothing.
 use Rattle.answers.specs.Limits.{most_items}
-use Rattle.host_calls.specs.Calls.{answer, ReadText, ReadPacket}
+use Rattle.host_calls.specs.Calls.{answer, ReadText, ReadProfile, ReadPacket}
 use Rattle.packet.proofs.Places.{place_within}
+use Rattle.text_profile.specs.Profile.{read_profile}
+use Rattle.text_profile.proofs.Places.{profile_place}
+use Rattle.theorems_profile.proofs.Refusals.{profile_under_accepted, profile_accepted}
+use native.Mathlib.Nat.{le_refl}
 use Rattle.theorems_hosts.specs.Promises.{Answers}
 use Rattle.theorems_hosts.proofs.Places.{text_place}
 use Rattle.theorems_hosts.proofs.Theorems.{of_placed, text_accepted, packet_accepted}
@@ -27,13 +31,13 @@ use Rattle.items.specs.declared.Item.TheVariants as item
 use Rattle.rules.specs.Rules.{empty, relatives, gather}
 use Rattle.rules.specs.declared.DateTimeBuilder.{DateTimeBuilder}
 use Rattle.builder.specs.Building.{build_extended, built, build}
-use Rattle.text_general.specs.Reading.{ascii_end, items_of, build_parsed, read_parsed, read_text}
+use Rattle.text_general.specs.Reading.{items_of, build_parsed, read_parsed, read_text}
 use Rattle.packet_fields.specs.Fields.{in_range, fields_at, fields_of, unpacked, digits_used}
 use Rattle.packet.specs.Packet.{count, digits, digits_stand, item_at, items_from, build_items, read_packet}
-use Rattle.host_calls.specs.Given.{text_numbers_accepted, packet_numbers_accepted}
-use Rattle.theorems_round_trip.proofs.Refusals.{Numbered, value, covers, has_covers, check_numbered, Among, a_refusal, step_then, placed_among, among_wider}
+use Rattle.host_calls.specs.Given.{text_numbers_accepted, profile_numbers_accepted, packet_numbers_accepted}
+use Rattle.theorems_round_trip.proofs.Refusals.{Numbered, value, covers, has_covers, Among, a_refusal, step_then, placed_among, among_wider}
 use Rattle.theorems_round_trip.proofs.BuildRefusals.{gather_among, text_gather}
-use Rattle.theorems_round_trip.proofs.TextRefusals.{reading_numbers, Reading, reading_text}
+use Rattle.theorems_round_trip.proofs.TextRefusals.{reading_numbers, Reading, reading_text, tests_among}
 use Rattle.theorems_packets.proofs.Exact.{placed_fine, first_fine, fine_same, step_fine}
 use Rattle.theorems_packets.proofs.Ranges.{AllPlain, no_item, one_item, text_plain}
 use Rattle.theorems_packets.proofs.Refusals.{header_numbered, items_from_among}
@@ -91,10 +95,7 @@ module _ (base : ExtendedDateTime) (t : test base ≡ accepted tt) where
 
   lowered_under : (l : List ℕ) → Among text_numbers_accepted (read_parsed (parse_items l) l base)
   unfolding read_parsed
-  lowered_under l =
-      step_then (placed_among 0 (base_passed text_numbers_accepted))
-      (step_then (placed_among 0 (check_numbered (leb (length l) 4096) 1 refl))
-      (step_then (placed_among (ascii_end l) (check_numbered (leb (length l) (ascii_end l)) 2 refl)) (parsed_under (parse_items l) (reading_text l) (text_plain l))))
+  lowered_under l = step_then (tests_among l base (base_passed text_numbers_accepted) refl refl) (parsed_under (parse_items l) (reading_text l) (text_plain l))
 
 -- Whatever the text, under an accepted base: the answer's number is 0 or one of these.
 pub text_under_accepted : (text : List ℕ) (base : ExtendedDateTime) → test base ≡ accepted tt → Among text_numbers_accepted (read_text text base)
@@ -146,6 +147,10 @@ packet_under_accepted bytes base t =
 -- So is the answer to a call, as `one_answer` says it, with the shorter lists.
 pub text_answers : (text : List ℕ) (base : ExtendedDateTime) → test base ≡ accepted tt → Answers text_numbers_accepted (length text) (answer (ReadText text base))
 text_answers text base t = of_placed text_numbers_accepted (length text) (read_text text base) (text_under_accepted text base t) (text_place text base) (text_accepted text base)
+
+pub profile_answers : (text : List ℕ) (base : ExtendedDateTime) → test base ≡ accepted tt → Answers profile_numbers_accepted (length text) (answer (ReadProfile text base))
+profile_answers text base t =
+    of_placed profile_numbers_accepted (length text) (read_profile text base) (profile_under_accepted text base t) (profile_place text base (length text) (λ h. le_refl _)) (profile_accepted text base)
 
 pub packet_answers : (bytes : List ℕ) (base : ExtendedDateTime) → test base ≡ accepted tt → Answers packet_numbers_accepted most_items (answer (ReadPacket bytes base))
 packet_answers bytes base t = of_placed packet_numbers_accepted 64 (read_packet bytes base) (packet_under_accepted bytes base t) (place_within bytes base) (packet_accepted bytes base)

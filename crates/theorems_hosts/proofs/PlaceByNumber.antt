@@ -21,12 +21,15 @@ use Rattle.items.specs.declared.Item.{Item}
 use Rattle.rules.specs.Rules.{empty, relatives, rule_place, onward, gather}
 use Rattle.rules.specs.declared.DateTimeBuilder.{DateTimeBuilder}
 use Rattle.builder.specs.Building.{build_extended, built, build}
+use Rattle.text_tests.specs.Tests.{test_text}
 use Rattle.text_general.specs.Reading.{items_of, build_parsed, read_parsed, read_text}
 use Rattle.packet_fields.specs.Fields.{digits_used}
 use Rattle.packet.specs.Packet as packet
 use Rattle.packet.specs.Packet.{count, header, digits, item_at, build_items, read_packet}
 use Rattle.host_answers.specs.Hosts.{record_answer, placed_answer}
-use Rattle.host_calls.specs.Calls.{Call, New, FromUnixSeconds, AddDays, AddHours, AddMinutes, AddSeconds, AddYears, AddMonths, ReadText, ReadPacket, answer}
+use Rattle.text_profile.specs.Forms.{date_in}
+use Rattle.text_profile.specs.Profile.{read_profile}
+use Rattle.host_calls.specs.Calls.{Call, New, FromUnixSeconds, AddDays, AddHours, AddMinutes, AddSeconds, AddYears, AddMonths, ReadText, ReadProfile, ReadPacket, answer}
 use Rattle.host_calls.specs.Given.{has, placed_numbers}
 use Rattle.theorems_round_trip.proofs.Refusals.{Numbered, value, by_number, covers, has_covers, check_numbered}
 use Rattle.theorems_round_trip.proofs.BuildRefusals.{rule_numbers, set_item_numbered}
@@ -129,12 +132,17 @@ parsed_place : (text : List ℕ) → AtPlace (items_of (parse_items text))
 unfolding parse_items
 parsed_place text = items_place (parse_items text) (reading_place most_items [] text 0)
 
+tests_place : (text : List ℕ) (base : ExtendedDateTime) → AtPlace (test_text text base)
+unfolding test_text
+tests_place text base = step_then (at_0 (test base)) (step_then (at_0 _) (numbered_at (refusal.foreign ∷ []) _ refl (check_numbered _ refusal.foreign refl)))
+
 text_place : (text : List ℕ) (base : ExtendedDateTime) → AtPlace (read_text text base)
 unfolding read_text read_parsed build_parsed
-text_place text base =
-    step_then (at_0 (test base))
-    (step_then (at_0 _) (step_then (numbered_at (refusal.foreign ∷ []) _ refl (check_numbered _ refusal.foreign refl))
-    (first_then (parsed_place (lowered text)) (λ xs. build_place [] xs base))))
+text_place text base = step_then (tests_place (lowered text) base) (first_then (parsed_place (lowered text)) (λ xs. build_place [] xs base))
+
+profile_place : (text : List ℕ) (base : ExtendedDateTime) → AtPlace (read_profile text base)
+unfolding read_profile
+profile_place text base = step_then (tests_place text base) (first_then (at_0 (date_in text)) (λ d. no_place _))
 
 -- ---- a packet
 
@@ -171,4 +179,5 @@ place_by_number (AddSeconds r n k) f = refl
 place_by_number (AddYears r n) f = refl
 place_by_number (AddMonths r n) f = refl
 place_by_number (ReadText text base) f = of_placed (read_text text base) (text_place text base) f
+place_by_number (ReadProfile text base) f = of_placed (read_profile text base) (profile_place text base) f
 place_by_number (ReadPacket packet base) f = of_placed (read_packet packet base) (packet_place packet base) f

@@ -7,6 +7,7 @@ use mathlib.Core.Path.{◌≡◌, refl, sym, ap, ◌∙◌}
 use mathlib.Core.List.{List, []}
 use lib.ListN.{length, drop}
 use lib.Dec.{leb}
+use Rattle.answers.proofs.Outcomes.{no_value}
 use Rattle.builder.specs.Building.{build}
 use Rattle.items.specs.declared.Item.{Item}
 use mathlib.Core.Bool.{Bool, true, false}
@@ -26,13 +27,18 @@ use Rattle.answers.specs.Placed.{Placed, fine, refusal, placed, place_of, ◌>>=
 use Rattle.extended.specs.Extended.{make, date, time, test, accept, moment, unix_seconds, weekday_monday0, day_of_year, from_unix_seconds, add_days, add_hours, add_minutes, add_seconds, add_years, add_months}
 use Rattle.extended.specs.declared.ExtendedDateTime.{ExtendedDateTime}
 use Rattle.host_answers.specs.Hosts.{record_answer, placed_answer, moment_answer, number_answer}
-use Rattle.host_calls.specs.Calls.{Call, New, FromUnixSeconds, AddDays, AddHours, AddMinutes, AddSeconds, AddYears, AddMonths, ReadText, ReadPacket, answer, moment_of, Question, Weekday, DayOfYear, number_of, Wrote}
-use Rattle.host_calls.specs.Given.{first_value, last_value, has, written_numbers, record_numbers, moment_numbers, sum_numbers, text_numbers, packet_numbers, numbers, place_limit}
+use Rattle.host_calls.specs.Calls.{Call, New, FromUnixSeconds, AddDays, AddHours, AddMinutes, AddSeconds, AddYears, AddMonths, ReadText, ReadProfile, ReadPacket, answer, moment_of, Question, Weekday, DayOfYear, number_of, Wrote}
+use Rattle.host_calls.specs.Given.{first_value, last_value, has, written_numbers, record_numbers, moment_numbers, sum_numbers, text_numbers, profile_numbers, packet_numbers, numbers, place_limit}
 use Rattle.packet.proofs.Places.{place_within}
 use Rattle.packet.specs.Packet.{count, header, digits, items_from, build_items, read_packet}
 use Rattle.items.specs.Items.{parse_items}
 use Rattle.primitive.specs.Text.{lowered}
-use Rattle.text_general.specs.Reading.{ascii_end, items_of, build_parsed, read_parsed, read_text}
+use Rattle.text_tests.specs.Tests.{test_text}
+use Rattle.text_general.specs.Reading.{items_of, build_parsed, read_parsed, read_text}
+use native.Mathlib.Nat.{le_refl}
+use Rattle.text_profile.specs.Profile.{read_profile}
+use Rattle.text_profile.proofs.Places.{profile_place}
+use Rattle.theorems_profile.proofs.Refusals.{profile_among, profile_accepted}
 use Rattle.theorems_hosts.proofs.Places.{text_place}
 use Rattle.theorems_packets.proofs.Refusals.{packet_among}
 use Rattle.theorems_round_trip.proofs.TextRefusals.{text_among}
@@ -63,9 +69,6 @@ Accepted r = test r ≡ accepted tt
 abbrev Whole : ExtendedDateTime → Type 0
 Whole r = whole_minutes r.offset_seconds ≡ true
 
-no_value : {X : Type 0} {n at : ℕ} {r : ExtendedDateTime} → refusal n at ≡ fine r → X
-no_value e = let z : ◌≡◌ {A = ℕ} 0 1 = cc in absurd (omega arith)
-
 module _ (P : ExtendedDateTime → Type 0) where
   first_fine : {A : Type 0} (p : Placed A) (f : A → Placed ExtendedDateTime) → ((a : A) → Fine P (f a)) → Fine P (p >>= f)
   first_fine (fine a) f g = g a
@@ -78,11 +81,7 @@ module _ (P : ExtendedDateTime → Type 0) where
   module _ (base : ExtendedDateTime) (built : (digits : List ℕ) (xs : List Item) → Fine P (build digits xs base)) where
     text_fine : (text : List ℕ) → Fine P (read_text text base)
     unfolding read_text read_parsed build_parsed
-    text_fine text =
-        let l = lowered text in
-        let items = first_fine (items_of (parse_items l)) (λ xs. build [] xs base) (built []) in
-        step_fine (placed 0 (test base)) _
-        (step_fine (placed 0 (check (leb (length l) 4096) 1)) _ (step_fine (placed (ascii_end l) (check (leb (length l) (ascii_end l)) 2)) _ items))
+    text_fine text = step_fine (test_text (lowered text) base) _ (first_fine (items_of (parse_items (lowered text))) (λ xs. build [] xs base) (built []))
 
     packet_fine : (bytes : List ℕ) → Fine P (read_packet bytes base)
     unfolding read_packet build_items
@@ -124,6 +123,7 @@ one_answer (AddSeconds r n k) = of_outcome sum_numbers 0 (add_seconds r n k) (ad
 one_answer (AddYears r n) = of_outcome sum_numbers 0 (add_years r n) (add_years_numbered r n) (years_good Any r tt n)
 one_answer (AddMonths r n) = of_outcome sum_numbers 0 (add_months r n) (add_months_numbered r n) (months_good Any r tt n)
 one_answer (ReadText text base) = of_placed text_numbers (length text) (read_text text base) (text_among text base) (text_place text base) (text_accepted text base)
+one_answer (ReadProfile text base) = of_placed profile_numbers (length text) (read_profile text base) (profile_among text base) (profile_place text base (length text) (λ h. le_refl _)) (profile_accepted text base)
 one_answer (ReadPacket packet base) = of_placed packet_numbers 64 (read_packet packet base) (packet_among packet base) (place_within packet base) (packet_accepted packet base)
 
 -- ---- a moment, a number, a text

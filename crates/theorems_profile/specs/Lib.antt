@@ -1,0 +1,2 @@
+-- The definitions of the crate `theorems_profile`.
+pub mod Texts
