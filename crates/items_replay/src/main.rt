@@ -3,20 +3,19 @@
 // the gate.
 //
 // A line is a text, a tab, and the reason why it is in the list, which is skipped; a line without a tab is a heading and is written as it is. In
-// a text, `{N}` is the byte of that number and `{N:PART}` is N times PART, without a brace. A text that is longer than 4096 bytes is answered by
-// 99, which is no text's answer. The list has room for 65536 bytes.
+// a text, `{N}` is the byte of that number and `{N:PART}` is N times PART, without a brace (`replay_lines`). A text that is longer than 8192
+// bytes is answered by 99, which is no text's answer. The list has room for 65536 bytes.
 #![tactic(auto)]
 
-mod line;
 mod replies;
 mod shown;
 
-use line::Line;
+use replay_lines::Line;
 use std::io::{Stdout, Write};
 
 // What is written for a line: a heading, or the items of a text.
 fn reply(out: &mut Stdout, line: &[u8]) -> std::io::Result<()> {
-    match line::expanded(line) {
+    match replay_lines::expanded(line) {
         Some(Line::Heading(text)) => out.write_all(text.as_slice())?,
         Some(Line::Text(text)) => replies::write_items(out, text.as_slice())?,
         None => write!(out, "99")?,

@@ -1,19 +1,29 @@
-// A line of the list, with what its braces mean.
+// A line of a list that `items_replay` or `profile_replay` replays: a heading, or a text with the reason why it is in the list.
+//
+// A text is followed by a tab, and what follows the tab is skipped; a line without a tab is a heading. In both `{N}` is the byte of that number
+// and `{N:PART}` is N times PART, without a brace.
+#![tactic(auto)]
+
 ghost use Rattle.std.specs.Prelude.{◌<◌, ◌≤◌, IfSome, length};
+ghost use Rattle.replay_lines.specs.Lines.{bytes_of};
 
 use arrayvec::ArrayVec;
 
-// A line by its text, with no more bytes than a text may have.
+// The most bytes of a line's text. It is more than the library reads, so that an oversize text can be in a list.
+const MOST_BYTES: usize = 8192;
+
 #[derive(Drop)]
 pub enum Line {
     // No tab ends the text.
-    Heading(ArrayVec<u8, 4096>),
-    Text(ArrayVec<u8, 4096>),
+    Heading(ArrayVec<u8, MOST_BYTES>),
+    Text(ArrayVec<u8, MOST_BYTES>),
 }
 
-// The line that bytes are, unless its text is too long. Braces that the list has no use for mean something too: a `}` that ends no part takes
-// away what follows the last one, and a number that nothing ends is the end of the line.
-pub fn expanded(bytes: &[u8]) -> Option<Line> {
+// The line that bytes are, unless its text is too long. Other braces than those two forms have a meaning that no list uses: a `}` without
+// its `{` takes away what follows the brace before it, and a number that nothing ends is the end of the line.
+pub fn expanded(bytes: &[u8]) -> Option<Line>
+    ensures { IfSome result (λ line. length (bytes_of line) ≤ 8192) }
+{
     let mut text = ArrayVec::new();
     // Where the part began that the next `}` ends, and how many copies there will be of it.
     let mut start = 0;
@@ -31,13 +41,13 @@ pub fn expanded(bytes: &[u8]) -> Option<Line> {
                 start = text.len();
                 copies = 0;
                 rest = match next.split_first() {
-                    Some((b':', behind)) => {
+                    Some((b':', after)) => {
                         copies = number;
-                        behind
+                        after
                     }
-                    Some((_, behind)) => {
+                    Some((_, after)) => {
                         text.try_push(u8::try_from(number).ok()?).ok()?;
-                        behind
+                        after
                     }
                     None => next,
                 };

@@ -1,6 +1,0 @@
--- `items_replay::line::expanded` ends: each turn reads a byte of the line. Assumes nothing.
-use lib.ListN.{length}
-use Rattle.items_replay.proofs.line.expanded.Given as goal
-
-abbrev pub decreases-loop-at : goal.decreases-loop-at
-decreases-loop-at l = length l.rest

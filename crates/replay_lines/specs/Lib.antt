@@ -1,0 +1,2 @@
+-- The definitions of the crate `replay_lines`.
+pub mod Lines
