@@ -1,4 +1,4 @@
-/* Nanoseconds a call of seqtullo_read_text, by the form of the text, and for the slowest texts that were found. */
+/* Nanoseconds a call of seqtullo_read_text, by the form of the text, and for the slowest texts that were found; and of seqtullo_read_profile. */
 #include "seqtullo.h"
 
 #include <stdio.h>
@@ -6,6 +6,9 @@
 #include <time.h>
 
 static char text[4096];
+
+/* The function that is called. */
+static struct seqtullo_answer (*read_it)(const uint8_t *, size_t, struct seqtullo_record) = seqtullo_read_text;
 
 static double now(void)
 {
@@ -23,7 +26,7 @@ static double least(size_t length, struct seqtullo_answer *answer)
     for (int round = 0; round < 8; round++) {
         double start = now();
         for (int i = 0; i < calls; i++)
-            *answer = seqtullo_read_text((const uint8_t *)text, length, base);
+            *answer = read_it((const uint8_t *)text, length, base);
         double each = (now() - start) / calls;
         if (each < best)
             best = each;
@@ -44,6 +47,20 @@ static double ordinary(const char *s)
 {
     memcpy(text, s, strlen(s));
     return row(s, strlen(s));
+}
+
+/* The two forms of the profile, read as the profile. */
+static void profile(void)
+{
+    static const char *const forms[] = {"2024-03-13", "2024-W11-3"};
+    read_it = seqtullo_read_profile;
+    for (size_t i = 0; i < sizeof forms / sizeof *forms; i++) {
+        char name[40];
+        snprintf(name, sizeof name, "%s, read as the profile", forms[i]);
+        memcpy(text, forms[i], strlen(forms[i]));
+        row(name, strlen(forms[i]));
+    }
+    read_it = seqtullo_read_text;
 }
 
 static double repeated(const char *name, const char *unit, size_t total)
@@ -85,6 +102,7 @@ int main(void)
     printf("%-52s %5s %10s %8s   answer\n", "text", "bytes", "ns", "ns/byte");
     for (size_t i = 0; i < sizeof forms / sizeof *forms; i++)
         ordinary(forms[i]);
+    profile();
     for (size_t total = 256; total <= 4096; total *= 4) {
         for (size_t i = 0; i < sizeof units / sizeof *units; i++) {
             char name[40];

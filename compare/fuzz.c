@@ -1,6 +1,7 @@
 /*
- * A libFuzzer target over seqtullo_read_text, seqtullo_read_packet and seqtullo_write: any bytes, and an abort where an answer is not well
- * formed. The first byte chooses: its two lowest bits the function, the next whether the base or record is of eight numbers of the input.
+ * A libFuzzer target over seqtullo_read_text, seqtullo_read_packet, seqtullo_write and seqtullo_read_profile: any bytes, and an abort where an
+ * answer is not well formed. The first byte chooses: its two lowest bits the function, the next whether the base or record is of eight numbers
+ * of the input.
  */
 #define _DEFAULT_SOURCE
 #include "seqtullo.h"
@@ -10,8 +11,8 @@
 #include <sys/mman.h>
 #include <unistd.h>
 
-enum { MOST_TEXT = 4096, MOST_ITEMS = 64, ITEM = 28, KEPT = 256, LAST_YEAR = 2147485547, ROOM = 8192 };
-enum { TEXT, PACKET, WRITE, FUNCTIONS };
+enum { MOST_TEXT = 4096, MOST_ITEMS = 64, ITEM = 28, DATE = 10, KEPT = 256, LAST_YEAR = 2147485547, ROOM = 8192 };
+enum { TEXT, PACKET, WRITE, PROFILE, FUNCTIONS };
 enum { OWN_RECORD = 4, RECORD = 17 };
 
 #define WANT(condition) ((condition) ? (void)0 : fail(#condition, __LINE__))
@@ -35,10 +36,10 @@ static void fail(const char *condition, int line)
 
 static void show(void)
 {
-    fprintf(stderr, "number      texts    packets     writes\n");
+    fprintf(stderr, "number      texts    packets     writes   profiles\n");
     for (int n = 0; n < 32; n++)
-        if (seen[TEXT][n] || seen[PACKET][n] || seen[WRITE][n])
-            fprintf(stderr, "%6d %10lu %10lu %10lu\n", n, seen[TEXT][n], seen[PACKET][n], seen[WRITE][n]);
+        if (seen[TEXT][n] || seen[PACKET][n] || seen[WRITE][n] || seen[PROFILE][n])
+            fprintf(stderr, "%6d %10lu %10lu %10lu %10lu\n", n, seen[TEXT][n], seen[PACKET][n], seen[WRITE][n], seen[PROFILE][n]);
 }
 
 int LLVMFuzzerInitialize(int *argc, char ***argv)
@@ -139,6 +140,15 @@ static void accepted(struct seqtullo_record r)
     WANT(a.number == 0 && a.place == 0 && same(a.record, r));
 }
 
+static struct seqtullo_answer read_by(int function, const uint8_t *lent, size_t length, struct seqtullo_record base)
+{
+    if (function == TEXT)
+        return seqtullo_read_text(lent, length, base);
+    if (function == PROFILE)
+        return seqtullo_read_profile(lent, length, base);
+    return seqtullo_read_packet(lent, length, base);
+}
+
 /* Reads the bytes at the end of the room and at its front: one answer, and the bytes as before. */
 static struct seqtullo_answer read_twice(int function, struct input in, struct seqtullo_record base)
 {
@@ -146,18 +156,18 @@ static struct seqtullo_answer read_twice(int function, struct input in, struct s
     for (int i = 0; i < 2; i++) {
         uint8_t *lent = i == 0 ? front + ROOM - in.length : front;
         memcpy(lent, in.bytes, in.length);
-        a[i] = function == TEXT ? seqtullo_read_text(lent, in.length, base) : seqtullo_read_packet(lent, in.length, base);
+        a[i] = read_by(function, lent, in.length, base);
         WANT(memcmp(lent, in.bytes, in.length) == 0);
     }
     WANT(a[0].number == a[1].number && a[0].place == a[1].place && same(a[0].record, a[1].record));
     return a[0];
 }
 
-/* What every answer of the two readers keeps to. */
+/* What every answer of the readers keeps to. */
 static void well_formed(struct seqtullo_answer a, struct seqtullo_record base)
 {
     static const struct seqtullo_record blank;
-    WANT(a.number <= SEQTULLO_SUM || a.number == SEQTULLO_FRACTION);
+    WANT(a.number <= SEQTULLO_SUM || a.number == SEQTULLO_WEEK || a.number == SEQTULLO_FRACTION);
     WANT(a.number == 0 || same(a.record, blank));
     WANT((a.number >= 2 && a.number <= 8) || a.number == SEQTULLO_FRACTION || a.place == 0);
     if (test(base) != 0)
@@ -182,6 +192,15 @@ static int clear(uint8_t *text, size_t length)
     return found;
 }
 
+/* The index of the first byte of 128 or more, or the length. */
+static size_t first_foreign(struct input in)
+{
+    size_t at = 0;
+    while (at < in.length && in.bytes[at] < 128)
+        at++;
+    return at;
+}
+
 /* A text is refused for its fraction only if there is one that loses a digit, and never once it loses none. */
 static void one_fraction(struct input in, struct seqtullo_record base, struct seqtullo_answer a)
 {
@@ -195,11 +214,9 @@ static void one_fraction(struct input in, struct seqtullo_record base, struct se
 static void one_text(struct input in, struct seqtullo_record base)
 {
     struct seqtullo_answer a = read_twice(TEXT, in, base);
-    size_t foreign = 0;
-    while (foreign < in.length && in.bytes[foreign] < 128)
-        foreign++;
+    size_t foreign = first_foreign(in);
     well_formed(a, base);
-    WANT(a.number != 5);
+    WANT(a.number != 5 && a.number != SEQTULLO_WEEK);
     if (test(base) == 0 && in.length > MOST_TEXT)
         WANT(a.number == SEQTULLO_OVERSIZE);
     else if (test(base) == 0 && foreign < in.length)
@@ -220,7 +237,7 @@ static void one_packet(struct input in, struct seqtullo_record base)
 {
     struct seqtullo_answer a = read_twice(PACKET, in, base);
     well_formed(a, base);
-    WANT((a.number < 2 || a.number > 4) && a.number != SEQTULLO_FRACTION);
+    WANT((a.number < 2 || a.number > 4) && a.number < SEQTULLO_WEEK);
     WANT(a.place <= MOST_ITEMS);
     if (test(base) == 0 && in.length < 8)
         WANT(a.number == 5 && a.place == 0);
@@ -229,6 +246,83 @@ static void one_packet(struct input in, struct seqtullo_record base)
     note(PACKET, a.number, a.place, item ? item[0] % 16 + 16u * (item[1] % 8) + 128u * of_record(a.record) : 0);
     if (a.number == 0 && in.length >= 8 + ITEM)
         memcpy(kept[kept_next++ % KEPT], in.bytes + 8, ITEM);
+}
+
+/* Whether a text has a digit where the form has one, else the form's byte, and no more bytes. */
+static int has_form(struct input in, const char *form)
+{
+    if (in.length != DATE)
+        return 0;
+    for (size_t i = 0; i < DATE; i++)
+        if (form[i] == '9' ? in.bytes[i] < '0' || in.bytes[i] > '9' : in.bytes[i] != (uint8_t)form[i])
+            return 0;
+    return 1;
+}
+
+/* The number of so many digits of a text. */
+static uint32_t number_at(struct input in, size_t at, size_t digits)
+{
+    uint32_t n = 0;
+    for (size_t i = at; i < at + digits; i++)
+        n = n * 10 + (in.bytes[i] - '0');
+    return n;
+}
+
+/* A year has 53 weeks if it begins on a Thursday, or on a Wednesday and is a leap year. */
+static uint32_t weeks_in(uint32_t year)
+{
+    struct seqtullo_record first = {year, 1, 1, 0, 0, 0, 0, 0};
+    uint32_t weekday = seqtullo_weekday(first).value;
+    return weekday == 3 || (weekday == 2 && seqtullo_days_in_month(year, 2) == 29) ? 53 : 52;
+}
+
+/* A plain date is refused as seqtullo_new would refuse it; accepted, it is the text's date, and what seqtullo_read_text reads. */
+static void one_plain_date(struct input in, struct seqtullo_record base, struct seqtullo_answer a)
+{
+    struct seqtullo_record wanted = {number_at(in, 0, 4), (uint8_t)number_at(in, 5, 2), (uint8_t)number_at(in, 8, 2), 0, 0, 0, 0, base.offset_seconds};
+    WANT(a.number == test(wanted));
+    WANT(a.number != 0 || same(a.record, wanted));
+    memcpy(front, in.bytes, in.length);
+    struct seqtullo_answer b = seqtullo_read_text(front, in.length, base);
+    WANT((a.number == 0) == (b.number == 0) && (b.number != 0 || same(a.record, b.record)));
+}
+
+/* A week date is refused unless there is one; accepted, its Thursday is in the text's year, and so many Thursdays of it are not after that. */
+static void one_week_date(struct input in, struct seqtullo_answer a)
+{
+    uint32_t year = number_at(in, 0, 4), week = number_at(in, 6, 2), day = number_at(in, 9, 1);
+    WANT(a.number == (week < 1 || week > weeks_in(year) || day < 1 || day > 7 ? SEQTULLO_WEEK : 0));
+    if (a.number != 0)
+        return;
+    struct seqtullo_answer thursday = seqtullo_add_days(a.record, 4 - (int64_t)day);
+    WANT(seqtullo_weekday(a.record).value + 1 == day);
+    WANT(thursday.number == 0 && thursday.record.year == year);
+    WANT((seqtullo_day_of_year(thursday.record).value + 6) / 7 == week);
+}
+
+/* The tests in their order; then the record of a date is midnight at the base's offset. */
+static void one_profile(struct input in, struct seqtullo_record base)
+{
+    struct seqtullo_answer a = read_twice(PROFILE, in, base);
+    size_t foreign = first_foreign(in);
+    well_formed(a, base);
+    WANT(a.number == SEQTULLO_FOREIGN ? a.place == foreign : a.place == 0);
+    if (a.number == 0)
+        WANT(a.record.hour == 0 && a.record.minute == 0 && a.record.second == 0 && a.record.nanosecond == 0
+             && a.record.offset_seconds == base.offset_seconds);
+    if (test(base) != 0)
+        WANT(a.number == test(base));
+    else if (in.length > MOST_TEXT)
+        WANT(a.number == SEQTULLO_OVERSIZE);
+    else if (foreign < in.length)
+        WANT(a.number == SEQTULLO_FOREIGN);
+    else if (has_form(in, "9999-99-99"))
+        one_plain_date(in, base, a);
+    else if (has_form(in, "9999-W99-9"))
+        one_week_date(in, a);
+    else
+        WANT(a.number == SEQTULLO_UNREAD);
+    note(PROFILE, a.number, a.place, a.number == 0 ? of_record(a.record) : (uint32_t)(in.length < 16 ? in.length : 16));
 }
 
 static void one_record(struct input in, struct seqtullo_record r)
@@ -290,6 +384,19 @@ static size_t mend_packet(uint8_t *packet, size_t length, size_t most, unsigned 
     return length;
 }
 
+/* One of the two forms in most texts; each digit is at most that of the form. */
+static size_t mend_profile(uint8_t *text, size_t length, size_t most, unsigned seed)
+{
+    const char *form = seed % 2 ? "9999-19-39" : "9999-W59-9";
+    if (most < DATE || seed % 8 < 2)
+        return length;
+    for (size_t i = 0; i < DATE; i++) {
+        uint8_t byte = i < length ? text[i] : (uint8_t)(seed >> i);
+        text[i] = (uint8_t)(form[i] > '0' && form[i] <= '9' ? '0' + (uint8_t)(byte - '0') % (form[i] - '0' + 1) : form[i]);
+    }
+    return DATE;
+}
+
 /* libFuzzer's change, or for some packets just an item more; then in three of four inputs what would be refused at the door is mended. */
 size_t LLVMFuzzerMutate(uint8_t *bytes, size_t length, size_t most);
 size_t LLVMFuzzerCustomMutator(uint8_t *bytes, size_t length, size_t most, unsigned seed)
@@ -308,6 +415,8 @@ size_t LLVMFuzzerCustomMutator(uint8_t *bytes, size_t length, size_t most, unsig
     if ((bytes[0] & 3) != WRITE)
         for (size_t i = at; i < length; i++)
             bytes[i] &= 127;
+    if ((bytes[0] & 3) == PROFILE)
+        return at + mend_profile(bytes + at, length - at, most - at, seed / 4);
     return length;
 }
 
@@ -332,6 +441,8 @@ int LLVMFuzzerTestOneInput(const uint8_t *bytes, size_t length)
         one_packet(in, r);
     else if ((choice & 3) == WRITE)
         one_record(in, r);
+    else if ((choice & 3) == PROFILE)
+        one_profile(in, r);
     else
         one_text(in, r);
     return 0;

@@ -54,6 +54,17 @@ int main(void)
     IS(b.place, 6);
     IS(b.record.year, 0);
 
+    b = seqtullo_read_profile((const uint8_t *)"2020-W53-5", 10, base.record);
+    IS(b.number, 0);
+    IS(b.record.year, 2021);
+    IS(b.record.month, 1);
+    IS(b.record.day, 1);
+    IS(b.record.hour, 0);
+    b = seqtullo_read_profile((const uint8_t *)"2021-W53-5", 10, base.record);
+    IS(b.number, SEQTULLO_WEEK);
+    IS(b.place, 0);
+    IS(b.record.year, 0);
+
     struct seqtullo_moment m = seqtullo_unix_seconds(base.record);
     IS(m.number, 0);
     IS(m.seconds, 1710322200);

@@ -26,6 +26,7 @@ static struct arguments now;
 static volatile uint32_t number;
 
 static void read_text(void) { number = seqtullo_read_text(now.bytes, now.length, now.record).number; }
+static void read_profile(void) { number = seqtullo_read_profile(now.bytes, now.length, now.record).number; }
 static void read_packet(void) { number = seqtullo_read_packet(now.bytes, now.length, now.record).number; }
 static void write_text(void) { number = seqtullo_write(now.record, now.bytes, now.length).number; }
 static void new(void)
@@ -53,6 +54,7 @@ static struct function {
     struct arguments worst;
 } functions[] = {
     {.name = "read_text", .call = read_text},
+    {.name = "read_profile", .call = read_profile},
     {.name = "read_packet", .call = read_packet},
     {.name = "write", .call = write_text},
     {.name = "new", .call = new},
@@ -69,7 +71,7 @@ static struct function {
     {.name = "days_in_month", .call = days_in_month},
 };
 
-enum { FUNCTIONS = sizeof functions / sizeof *functions, BY_BYTES = 2 };
+enum { FUNCTIONS = sizeof functions / sizeof *functions, TEXTS = 2, BY_BYTES = 3 };
 
 static uint8_t *stack;
 static uint8_t painted[PAGE];
@@ -160,7 +162,8 @@ int main(void)
         if (low == EOF || high == EOF || now.length > MOST || fread(now.bytes, 1, now.length, stdin) != now.length)
             return 2;
         now.record = (struct seqtullo_record){2024, 3, 13, 9, 30, 0, 0, 0};
-        measure(&functions[kind == 't' ? 0 : 1]);
+        for (size_t i = kind == 't' ? 0 : TEXTS; i < (kind == 't' ? TEXTS : BY_BYTES); i++)
+            measure(&functions[i]);
     }
     for (size_t i = BY_BYTES; i < FUNCTIONS; i++)
         for (int j = 0; j < RANDOM; j++) {
@@ -177,7 +180,7 @@ int main(void)
         if (i < BY_BYTES) {
             printf("%zu bytes:", f->worst.length);
             for (size_t k = 0; k < f->worst.length && k < 24; k++)
-                printf(i == 0 ? "%c" : " %02x", f->worst.bytes[k]);
+                printf(i < TEXTS ? "%c" : " %02x", f->worst.bytes[k]);
         }
         printf("\n");
         most = f->most > most ? f->most : most;
