@@ -98,6 +98,7 @@ SECTIONS = [
         ('10:00 20240131', '`20240131 10:00`: no blank may come before digits in a row'),
         ('2024-03-13T09', '`2024-03-13T09:00`'),
         ('2024-03', '`2024-03-01`'),
+        ('2024-W11-3', '`2024-03-13`; week dates are read by `seqtullo_read_profile` alone'),
         ('1430', '`14:30`: pure numbers come by packet alone'),
         ('13:00 pm', '`13:00` or `1:00 pm`'),
         ('24:00', '`00:00` of the next day'),
@@ -158,7 +159,7 @@ TAIL = """## The numbers
 | 22 fraction | a digit other than 0 after the ninth of a fraction | never |
 
 A base that is refused gives its own number first: 9, or 11 to 17. 19 and 20 come from writing alone, and 20 only where the base's offset has
-seconds. No answer has number 21.
+seconds. 21 comes from `seqtullo_read_profile` alone, which reads a date of ISO 8601 by itself (docs/SCOPE.md, 'The profile').
 
 ## The place
 
