@@ -37,6 +37,7 @@ packet_numbers = refusal.oversize ∷ refusal.packet ∷ refusal.twice ∷ refus
 abbrev pub text_numbers_accepted : List ℕ
 text_numbers_accepted = refusal.oversize ∷ refusal.foreign ∷ refusal.unread ∷ refusal.stopped ∷ refusal.fraction ∷ refusal.twice ∷ refusal.over ∷ refusal.under ∷ refusal.day ∷ refusal.sum ∷ []
 
+-- a text of the profile under an accepted base: 11 and 12 for a plain date, 21 for a week date
 abbrev pub profile_numbers_accepted : List ℕ
 profile_numbers_accepted = refusal.oversize ∷ refusal.foreign ∷ refusal.unread ∷ refusal.month ∷ refusal.day ∷ refusal.week ∷ []
 

@@ -143,7 +143,7 @@ row_digits w t h at n l e i k =
 pub data FormOf (text : List ℕ) : Option Form → Type 0 where
   a_plain : formed plain_pattern text ≡ true → FormOf text (Some (variant.Plain (plain_parts text)))
   a_week : formed week_pattern text ≡ true → FormOf text (Some (variant.Week (week_parts text)))
-  neither : formed plain_pattern text ≡ false → formed week_pattern text ≡ false → FormOf text None
+  neither : FormOf text None
 
 pub form_of : (text : List ℕ) → FormOf text (form text)
 unfolding form
@@ -153,7 +153,7 @@ form_of text = by (formed plain_pattern text) refl (formed week_pattern text) re
         FormOf text (cond p (Some (variant.Plain (plain_parts text))) (cond q (Some (variant.Week (week_parts text))) None))
     by true e q f = a_plain e
     by false e true f = a_week f
-    by false e false f = neither e f
+    by false e false f = neither
 
 -- the year has four digits
 four_digits : (w text : List ℕ) → formed w text ≡ true → 4 ≤ length w → every 4 (λ k. eqb (get_or w (0 + k) 0) 48) ≡ true → number text 0 4 < 10000
@@ -166,7 +166,7 @@ plain_year text d e = by (form text) (form_of text) e
     by : (f : Option Form) → FormOf text f → f ≡ Some (variant.Plain d) → d.year < 10000
     by f (a_plain h) e = let y : number text 0 4 ≡ d.year = cc in rw y at (four_digits plain_pattern text h (omega arith) refl)
     by f (a_week h) e = cc
-    by f (neither h k) e = cc
+    by f neither e = cc
 
 pub week_year : (text : List ℕ) (d : WeekDate) → form text ≡ Some (variant.Week d) → d.year < 10000
 unfolding bytes
@@ -175,6 +175,6 @@ week_year text d e = by (form text) (form_of text) e
     by : (f : Option Form) → FormOf text f → f ≡ Some (variant.Week d) → d.year < 10000
     by f (a_plain h) e = cc
     by f (a_week h) e = let y : number text 0 4 ≡ d.year = cc in rw y at (four_digits week_pattern text h (omega arith) refl)
-    by f (neither h k) e = cc
+    by f neither e = cc
 
 pub ruleset forms = (other_length, none_read, misfit, fitting, all_read, rules)

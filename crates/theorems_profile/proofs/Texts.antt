@@ -98,7 +98,7 @@ plain_only t d e = by (form t) (form_of t) e
     by : (f : Option Form) → FormOf t f → f ≡ Some (variant.Plain d) → t ≡ plain_text d
     by f (a_plain h) e = let p : plain_parts t ≡ d = cc in plain_again t h ∙ ap plain_text p
     by f (a_week h) e = cc
-    by f (neither h k) e = cc
+    by f neither e = cc
 
 pub week_only : (t : List ℕ) (w : WeekDate) → form t ≡ Some (variant.Week w) → t ≡ week_text w
 week_only t w e = by (form t) (form_of t) e
@@ -106,4 +106,4 @@ week_only t w e = by (form t) (form_of t) e
     by : (f : Option Form) → FormOf t f → f ≡ Some (variant.Week w) → t ≡ week_text w
     by f (a_plain h) e = cc
     by f (a_week h) e = let p : week_parts t ≡ w = cc in week_again t h ∙ ap week_text p
-    by f (neither h k) e = cc
+    by f neither e = cc

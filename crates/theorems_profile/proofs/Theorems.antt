@@ -14,10 +14,9 @@ use Rattle.calendar.specs.declared.Civil.{Civil}
 use Rattle.calendar.specs.Calendar.{Valid, civil, day_number}
 use Rattle.calendar.proofs.Counting.{years_le}
 use Rattle.calendar.proofs.Dates.{place, between}
-use Rattle.extended.specs.Extended.{make, date_of, test, test_date, blank_record}
+use Rattle.extended.specs.Extended.{make, date_of, test, test_date}
 use Rattle.extended.specs.declared.ExtendedDateTime.{ExtendedDateTime}
 use Rattle.host_answers.specs.Hosts.{placed_answer}
-use Rattle.host_answers.specs.declared.Answer.{Answer}
 use Rattle.host_calls.specs.Calls.{answer, ReadProfile}
 use Rattle.host_calls.specs.Given.{profile_numbers}
 use Rattle.theorems_round_trip.proofs.Refusals.{positive, Among, a_refusal}

@@ -23,7 +23,7 @@ use Rattle.weeks.proofs.Search.{day_none, day_dated, day_found}
 pub own_date : (n : ℕ) → 2 ≤ n → day_of (week_date n) ≡ Some n
 own_date n h = let d = week_date n in day_dated d.year d.week d.day n (dated_of_day n h)
 
--- The first day that is found is the only one: so the bound of the search, which is in the definition, is none of what it says.
+-- The day that is found is the only one, from day 2 on: so the bound of the search adds nothing to what the definition says.
 pub exactly : (date : WeekDate) (n : ℕ) → (day_of date ≡ Some n) ↔ ((2 ≤ n) × (week_date n ≡ date))
 exactly date n = (day_found date n, back)
   where
@@ -87,13 +87,13 @@ day_closed date =
     by true e false f c g d h = day_none date (λ n r. omega (arith, r.week_high, leb-false (date.week + weeks_by date.year) (weeks_by (date.year + 1)) f))
     by false e b f c g d h = day_none date (λ n r. omega (arith, r.week_low, leb-false 1 date.week e))
 
--- 71 years of the cycle have 53 weeks, and each cycle is as the first.
+-- The weeks of a year are those of the year 400 years later.
 pub weeks_again : (y : ℕ) → weeks_in (y + 400) ≡ weeks_in y
 weeks_again y =
     let e : y + 400 + 1 ≡ y + 1 + 400 = omega arith in
     omega (arith, weeks_counted y, weeks_counted (y + 400), periodic y, ap days_before_year e, periodic (y + 1))
 
--- the same by the weeks before each year, which compute
+-- the years of 53 weeks by the weeks before each year, which compute
 by_quotients : ℕ → ℕ
 by_quotients zero = 0
 by_quotients (suc y) = by_quotients y + cond (eqb (weeks_by (y + 1) - weeks_by y) 53) 1 0
@@ -105,6 +105,7 @@ counted_so (suc y) =
     let e : weeks_in y ≡ weeks_by (y + 1) - weeks_by y = omega (arith, weeks_counted y) in
     rw (e, counted_so y) refl
 
+-- 71 years of the cycle have 53 weeks.
 pub long_years_71 : long_years 400 ≡ 71
 unfolding by_quotients days_before_year year_days leap
 long_years_71 = counted_so 400 ∙ refl

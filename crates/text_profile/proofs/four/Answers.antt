@@ -1,4 +1,4 @@
--- `text_profile::four` meets its contract, two digits by two. Assumes nothing.
+-- `text_profile::four` meets its contract: four digits are two numbers of two. Assumes nothing.
 use native.Mathlib.Omega.{arith}
 use Rattle.text_profile.proofs.Forms.{number_four}
 use Rattle.text_profile.proofs.four.Goals as goal

@@ -1,4 +1,4 @@
--- `text_profile::two` meets its contract digit by digit. Assumes nothing.
+-- `text_profile::two` meets its contract: the second digit's place is one on, and both are below 10. Assumes nothing.
 use native.Mathlib.Omega.{arith}
 use Rattle.text_profile.proofs.Forms.{number_two}
 use Rattle.text_profile.proofs.two.Goals as goal

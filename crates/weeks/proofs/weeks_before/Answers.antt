@@ -1,4 +1,4 @@
--- `weeks::weeks_before` meets its contract by the law of Thursdays. Assumes nothing.
+-- `weeks::weeks_before` meets its contract by the law of Thursdays; its bound comes from that of the days before a u32's year. Assumes nothing.
 use native.Mathlib.Omega.{arith}
 use Rattle.calendar.specs.Calendar.{days_before_year}
 use Rattle.calendar.proofs.Counting.{years_bound}
