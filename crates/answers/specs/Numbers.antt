@@ -2,7 +2,7 @@
 -- itself.
 use Rattle.std.specs.Prelude.{ℕ}
 
--- oversize: a text over 4096 bytes, a 65th item, or a packet's item count above 64
+-- oversize: a text over 4096 bytes, a 65th item, a packet's item count above 64, a board of more than 128 places, or a count above its places
 abbrev pub oversize : ℕ
 oversize = 1
 
@@ -18,7 +18,7 @@ unread = 3
 abbrev pub stopped : ℕ
 stopped = 4
 
--- packet: a packet rule is broken
+-- packet: a packet rule is broken, or an id is twice on a board
 abbrev pub packet : ℕ
 packet = 5
 
@@ -89,3 +89,15 @@ week = 21
 -- fraction: the fraction of a text's item has a digit other than 0 after the ninth
 abbrev pub fraction : ℕ
 fraction = 22
+
+-- present: an id that joins a board is on it already
+abbrev pub present : ℕ
+present = 23
+
+-- full: a board has no free place
+abbrev pub full : ℕ
+full = 24
+
+-- absent: an id that leaves a board is not on it
+abbrev pub absent : ℕ
+absent = 25

@@ -31,6 +31,9 @@ code variant.Short = refusal.short
 code variant.Seam = refusal.seam
 code variant.Week = refusal.week
 code variant.Fraction = refusal.fraction
+code variant.Present = refusal.present
+code variant.Full = refusal.full
+code variant.Absent = refusal.absent
 
 abbrev pub outcome_of : {A : Type 0} → Result A Refusal → Outcome A
 outcome_of (Ok a) = accepted a

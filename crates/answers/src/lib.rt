@@ -1,4 +1,5 @@
-// The answers by number: every refusal with its number and its word, a refusal with its place, and the limits of texts, packets and years.
+// The answers by number: every refusal with its number and its word, a refusal with its place, and the limits of texts,
+// packets, boards and years.
 //
 // A function of the crates above returns a value or a `Refusal`; the definitions (specs/Refusals.antt) see that as an `Outcome`, which has the
 // number. The readers of texts and packets return a `PlacedRefusal`, seen as a `Placed`. A new number is added here, in specs/Numbers.antt and
@@ -14,6 +15,9 @@ pub const MAX_LENGTH: usize = 4096;
 // The most items that a text or a packet may have.
 pub const MOST_ITEMS: usize = 64;
 
+// The most places that a board may have.
+pub const MOST_PLACES: usize = 128;
+
 // The bytes of the longest written record.
 pub const LONGEST_TEXT: usize = 41;
 
@@ -22,7 +26,7 @@ pub const GNU_MAX_YEAR: u32 = 2147485547;
 
 #[derive(Clone, Copy, Debug, PartialEq, Eq)]
 pub enum Refusal {
-    // oversize: a text over 4096 bytes, a 65th item, or a packet's item count above 64
+    // oversize: a text over 4096 bytes, a 65th item, a packet's item count above 64, a board of more than 128 places, or a count above its places
     Oversize = 1,
     // foreign: a byte of 128 or more
     Foreign = 2,
@@ -30,7 +34,7 @@ pub enum Refusal {
     Unread = 3,
     // stopped: a reader stops
     Stopped = 4,
-    // packet: a packet rule is broken
+    // packet: a packet rule is broken, or an id is twice on a board
     Packet = 5,
     // twice: a second date, time, weekday or zone
     Twice = 6,
@@ -66,6 +70,12 @@ pub enum Refusal {
     Week = 21,
     // fraction: the fraction of a text's item has a digit other than 0 after the ninth
     Fraction = 22,
+    // present: an id that joins a board is on it already
+    Present = 23,
+    // full: a board has no free place
+    Full = 24,
+    // absent: an id that leaves a board is not on it
+    Absent = 25,
 }
 
 impl From<Refusal> for u32 {
