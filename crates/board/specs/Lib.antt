@@ -1,0 +1,4 @@
+-- The definitions of the crate `board`, in reading order.
+pub mod Order
+pub mod Ids
+pub mod Board
