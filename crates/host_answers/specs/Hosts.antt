@@ -1,11 +1,14 @@
 -- What hosts are answered: docs/SCOPE.md, 'Answers by number'.
-use Rattle.std.specs.Prelude.{ℕ, ℤ, pos}
-use Rattle.answers.specs.Outcome.{Outcome, number, value_or}
+use Rattle.std.specs.Prelude.{ℕ, ℤ, pos, unwrap_or}
+use Rattle.answers.specs.Outcome.{Outcome, accepted, refused, number, value_or}
 use Rattle.extended.specs.Extended.{blank_record}
 use Rattle.extended.specs.declared.ExtendedDateTime.{ExtendedDateTime}
 use Rattle.answers.specs.Placed as placed
 use Rattle.answers.specs.Placed.{Placed, number_of, place_of}
+use Rattle.board.specs.Board.{zeros}
+use Rattle.board.specs.declared.Held.{Held}
 use Rattle.host_answers.specs.declared.Answer.{Answer}
+use Rattle.host_answers.specs.declared.BoardAnswer.{BoardAnswer}
 use Rattle.host_answers.specs.declared.Moment.{Moment}
 use Rattle.host_answers.specs.declared.Number.{Number}
 
@@ -23,3 +26,8 @@ moment_answer o = record { number = number o; seconds = value_or (pos 0) o }
 
 unfoldable pub number_answer : Outcome ℕ → Number
 number_answer o = record { number = number o; value = value_or 0 o }
+
+-- number 0, how many records are on the board and the next to stop, which is zeros if there is none; or the number of a refusal, 0 and zeros
+unfoldable pub board_answer : Outcome Held → BoardAnswer
+board_answer (accepted held) = record { number = 0; count = held.count; next = unwrap_or held.next zeros }
+board_answer (refused n) = record { number = n; count = 0; next = zeros }

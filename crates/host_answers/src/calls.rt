@@ -3,9 +3,11 @@ ghost use Rattle.std.specs.Prelude.{◌≡◌, length};
 ghost use Rattle.extended.specs.Calendar.{month_days};
 ghost use Rattle.extended.specs.Extended.{make, date, time, accept, from_unix_seconds, unix_seconds, add_days, add_hours, add_minutes, add_seconds, add_years, add_months, weekday_monday0, day_of_year};
 ghost use Rattle.writer.specs.Writer.{written, bytes_of, written_answer, over};
-ghost use Rattle.host_answers.specs.Hosts.{record_answer, moment_answer, number_answer};
+ghost use Rattle.board.specs.Board.{join, leave, next, answered, run_joined, run_left};
+ghost use Rattle.host_answers.specs.Hosts.{record_answer, moment_answer, number_answer, board_answer};
 
-use crate::{Answer, Moment, Number, Record};
+use crate::{Answer, BoardAnswer, Moment, Number, Record};
+use board::Deadline;
 use extended::{DateParts, ExtendedDateTime, TimeParts};
 use writer::Written;
 
@@ -107,4 +109,28 @@ pub fn days_in_month(year: u32, month: u8) -> u8
     ensures { result ≡ month_days year month }
 {
     extended::days_in_month(year, month)
+}
+
+// Puts a plug-in after the last record of a board.
+pub fn board_join(run: &mut [Deadline], count: usize, joining: Deadline) -> BoardAnswer
+    ensures value { result ≡ board_answer (answered (join run.old count joining)) }
+    ensures run_after { run.new ≡ run_joined run.old count joining }
+{
+    board::join(run, count, joining).into()
+}
+
+// Takes a plug-in off a board.
+pub fn board_leave(run: &mut [Deadline], count: usize, id: u32) -> BoardAnswer
+    ensures value { result ≡ board_answer (answered (leave run.old count id)) }
+    ensures run_after { run.new ≡ run_left run.old count id }
+{
+    board::leave(run, count, id).into()
+}
+
+// How many records are on a board, and the next to stop.
+pub fn board_next(run: &[Deadline], count: usize) -> BoardAnswer
+    ensures value { result ≡ board_answer (answered (next run.now count)) }
+    ensures run_after { run.exit.now ≡ run.entry.now }
+{
+    board::next(run, count).into()
 }

@@ -1,19 +1,20 @@
-// What hosts are answered: a record, a moment or a number under number 0, or a refusal with its number
-// of the table of answers, and then the blank record, or 0 where a number was wanted.
+// What hosts are answered. Under number 0: a record, a moment, a number, or a board's count and next to stop. A refusal has its number of the
+// table of answers, and the blank record, the count 0 and zeros for a board, or 0 where a number was wanted.
 //
-// `calls` answers the calls that need no reader; `seqtullo` exports them and answers those that read.
+// `calls` answers the calls that need no reader, `host_calls` those that read; `seqtullo` exports both.
 #![tactic(auto)]
 
 mod calls;
 
 ghost use Rattle.std.specs.Prelude.{◌≡◌};
 ghost use Rattle.answers.specs.Refusals.{outcome_of};
-ghost use Rattle.host_answers.specs.Hosts.{record_answer, moment_answer, number_answer};
+ghost use Rattle.host_answers.specs.Hosts.{record_answer, moment_answer, number_answer, board_answer};
 
 use answers::Refusal;
+use board::{Deadline, Held};
 pub use calls::{
-    add_days, add_hours, add_minutes, add_months, add_seconds, add_years, day_of_year,
-    days_in_month, from_unix_seconds, new, unix_seconds, weekday, write,
+    add_days, add_hours, add_minutes, add_months, add_seconds, add_years, board_join, board_leave,
+    board_next, day_of_year, days_in_month, from_unix_seconds, new, unix_seconds, weekday, write,
 };
 use extended::ExtendedDateTime;
 
@@ -40,6 +41,15 @@ pub struct Moment {
 pub struct Number {
     pub number: u32,
     pub value: u32,
+}
+
+// How many records are on a board, and the next to stop; in a refusal 0 and zeros. A refusal of the board has no place.
+#[repr(C)]
+#[derive(Clone, Copy)]
+pub struct BoardAnswer {
+    pub number: u32,
+    pub count: u32,
+    pub next: Deadline,
 }
 
 impl From<Result<ExtendedDateTime, Refusal>> for Answer {
@@ -87,6 +97,26 @@ impl From<Result<u32, Refusal>> for Number {
             Err(refusal) => Number {
                 number: u32::from(refusal),
                 value: 0,
+            },
+        }
+    }
+}
+
+impl From<Result<Held, Refusal>> for BoardAnswer {
+    ghost from_gives = { λ made answer. answer ≡ board_answer (outcome_of made) };
+
+    #[tactic(auto, unfolding(crate::specs::Hosts::board_answer))]
+    fn from(made: Result<Held, Refusal>) -> BoardAnswer {
+        match made {
+            Ok(held) => BoardAnswer {
+                number: 0,
+                count: held.count,
+                next: held.next.unwrap_or(Deadline::ZEROS),
+            },
+            Err(refusal) => BoardAnswer {
+                number: u32::from(refusal),
+                count: 0,
+                next: Deadline::ZEROS,
             },
         }
     }

@@ -1,9 +1,10 @@
 -- Which numbers a call can give, and how far its place can be: docs/SCOPE.md, 'Answers by number'. That no call gives another number is proved
--- in theorems_hosts, proofs/Theorems.antt, and for the shorter lists of an accepted base in proofs/AcceptedBase.antt.
+-- in theorems_hosts, proofs/Theorems.antt, for the shorter lists of an accepted base in proofs/AcceptedBase.antt, and for the board in
+-- theorems_board.
 use Rattle.answers.specs.Numbers as refusal
 use Rattle.answers.specs.Limits.{most_items}
 use Rattle.std.specs.Prelude.{ℕ, Bool, false, ◌||◌, List, [], ◌∷◌, eqb, length}
-use Rattle.host_calls.specs.Calls.{Question, Weekday, DayOfYear, Call, New, FromUnixSeconds, AddDays, AddHours, AddMinutes, AddSeconds, AddYears, AddMonths, ReadText, ReadProfile, ReadPacket}
+use Rattle.host_calls.specs.Calls.{Question, Weekday, DayOfYear, Call, New, FromUnixSeconds, AddDays, AddHours, AddMinutes, AddSeconds, AddYears, AddMonths, ReadText, ReadProfile, ReadPacket, BoardCall, Join, Leave, Next}
 
 -- whether a number is in a list
 abbrev pub has : List ℕ → ℕ → Bool
@@ -87,3 +88,9 @@ first_value (DayOfYear r) = 1
 abbrev pub last_value : Question → ℕ
 last_value (Weekday r) = 6
 last_value (DayOfYear r) = 366
+
+-- a call of the board: 1 for its run or its count, 5 for an id twice, then the numbers for what joins or leaves
+abbrev pub board_numbers : BoardCall → List ℕ
+board_numbers (Join run count joining) = refusal.oversize ∷ refusal.packet ∷ refusal.nanosecond ∷ refusal.present ∷ refusal.full ∷ []
+board_numbers (Leave run count id) = refusal.oversize ∷ refusal.packet ∷ refusal.absent ∷ []
+board_numbers (Next run count) = refusal.oversize ∷ refusal.packet ∷ []

@@ -20,7 +20,7 @@ use std::io::{ErrorKind, IsTerminal, Read, Stdin, Stdout, Write};
 use std::process::ExitCode;
 
 // The version of the whole repository.
-const VERSION: &str = "2.2.0";
+const VERSION: &str = "2.3.0";
 
 const HELP: &str = "usage: seqtullo [--base TEXT | --help | --version]
 

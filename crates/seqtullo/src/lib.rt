@@ -1,13 +1,14 @@
 // The library as hosts call it: every function takes any arguments, answers by a number of the table
-// of answers, and a refusal carries the blank record, or 0 where a number was wanted. What each call
-// answers is in `host_calls`, specs/Calls.antt.
+// of answers, and a refusal carries the blank record, a board's count 0 and zeros, or 0 where a number
+// was wanted. What each call answers is in `host_calls`, specs/Calls.antt.
 #![tactic(auto)]
 
 ghost use Rattle.std.specs.Prelude.{◌≡◌};
 ghost use Rattle.extended.specs.Calendar.{month_days};
-ghost use Rattle.host_calls.specs.Calls.{answer, New, FromUnixSeconds, AddDays, AddHours, AddMinutes, AddSeconds, AddYears, AddMonths, ReadText, ReadProfile, ReadPacket, moment_of, number_of, Weekday, DayOfYear, Wrote};
+ghost use Rattle.host_calls.specs.Calls.{answer, New, FromUnixSeconds, AddDays, AddHours, AddMinutes, AddSeconds, AddYears, AddMonths, ReadText, ReadProfile, ReadPacket, moment_of, number_of, Weekday, DayOfYear, Wrote, board_of, run_after, Join, Leave, Next};
 
-use host_answers::{Answer, Moment, Number, Record};
+use board::Deadline;
+use host_answers::{Answer, BoardAnswer, Moment, Number, Record};
 use writer::Written;
 
 #[unsafe(no_mangle)]
@@ -148,4 +149,35 @@ pub extern "C" fn seqtullo_write(record: Record, out: &mut [u8]) -> Written
     ensures { Wrote «record» out.old result out.new }
 {
     host_answers::write(record, out)
+}
+
+// Puts a plug-in on a board.
+#[unsafe(no_mangle)]
+pub extern "C" fn seqtullo_board_join(
+    run: &mut [Deadline],
+    count: usize,
+    joining: Deadline,
+) -> BoardAnswer
+    ensures answered { result ≡ board_of (Join run.old count joining) }
+    ensures run_after { run.new ≡ run_after (Join run.old count joining) }
+{
+    host_answers::board_join(run, count, joining)
+}
+
+// Takes a plug-in off a board.
+#[unsafe(no_mangle)]
+pub extern "C" fn seqtullo_board_leave(run: &mut [Deadline], count: usize, id: u32) -> BoardAnswer
+    ensures answered { result ≡ board_of (Leave run.old count id) }
+    ensures run_after { run.new ≡ run_after (Leave run.old count id) }
+{
+    host_answers::board_leave(run, count, id)
+}
+
+// How many plug-ins are on a board, and the next to stop.
+#[unsafe(no_mangle)]
+pub extern "C" fn seqtullo_board_next(run: &[Deadline], count: usize) -> BoardAnswer
+    ensures answered { result ≡ board_of (Next run.now count) }
+    ensures run_after { run.exit.now ≡ run_after (Next run.entry.now count) }
+{
+    host_answers::board_next(run, count)
 }

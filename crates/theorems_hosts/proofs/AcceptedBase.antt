@@ -35,7 +35,8 @@ use Rattle.text_general.specs.Reading.{items_of, build_parsed, read_parsed, read
 use Rattle.packet_fields.specs.Fields.{in_range, fields_at, fields_of, unpacked, digits_used}
 use Rattle.packet.specs.Packet.{count, digits, digits_stand, item_at, items_from, build_items, read_packet}
 use Rattle.host_calls.specs.Given.{text_numbers_accepted, profile_numbers_accepted, packet_numbers_accepted}
-use Rattle.theorems_round_trip.proofs.Refusals.{Numbered, value, covers, has_covers, Among, a_refusal, step_then, placed_among, among_wider}
+use Rattle.host_calls.proofs.Numbered.{Numbered, value, covers, has_covers}
+use Rattle.theorems_round_trip.proofs.Refusals.{Among, a_refusal, step_then, placed_among, among_wider}
 use Rattle.theorems_round_trip.proofs.BuildRefusals.{gather_among, text_gather}
 use Rattle.theorems_round_trip.proofs.TextRefusals.{reading_numbers, Reading, reading_text, tests_among}
 use Rattle.theorems_packets.proofs.Exact.{placed_fine, first_fine, fine_same, step_fine}

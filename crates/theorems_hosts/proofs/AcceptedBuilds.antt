@@ -25,7 +25,8 @@ use Rattle.rules.specs.declared.DateTimeBuilder.{DateTimeBuilder}
 use Rattle.rules.specs.declared.Zone.{Zone}
 use Rattle.rules.specs.declared.Zone.TheVariants as given-zone
 use Rattle.builder.specs.Building.{start, year_or, on_date, on_offset, on_time, weekday_sum, delta, forwarded, on_weekday, add_relative, add_relatives, with_zone, on_zone, absolute, none, build_extended}
-use Rattle.theorems_round_trip.proofs.Refusals.{Numbered, covers, steps}
+use Rattle.host_calls.proofs.Numbered.{Numbered, covers}
+use Rattle.theorems_round_trip.proofs.Refusals.{steps}
 use Rattle.theorems_hosts.proofs.AcceptedRecords.{Yields, a_record, yields_wider, onto, first, either, accept_yields, moved_numbers, units_yield, day_yields, time_yields, offset_yields}
 use Rattle.theorems_hosts.proofs.PartsInRange.{YearFits, DateFits, OffsetFits, IfAny, TimeFits, ZoneFits, Fits}
 

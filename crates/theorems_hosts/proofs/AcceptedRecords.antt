@@ -22,7 +22,8 @@ use Rattle.builder.specs.Building.{add_relative}
 use Rattle.packet_fields.specs.Fields.{of_relative}
 use Rattle.host_calls.specs.Given.{has}
 use Rattle.theorems_round_trip.proofs.Accepted.{Good, Any, unix_good}
-use Rattle.theorems_round_trip.proofs.Refusals.{Numbered, value, by_number, covers, has_covers, check_numbered, checked_numbered, from_zero_numbered, steps}
+use Rattle.host_calls.proofs.Numbered.{Numbered, value, by_number, covers, has_covers, check_numbered}
+use Rattle.theorems_round_trip.proofs.Refusals.{checked_numbered, from_zero_numbered, steps}
 
 -- ---- steps from one accepted record to the next
 

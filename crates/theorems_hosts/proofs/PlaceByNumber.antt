@@ -31,7 +31,7 @@ use Rattle.text_profile.specs.Forms.{date_in}
 use Rattle.text_profile.specs.Profile.{read_profile}
 use Rattle.host_calls.specs.Calls.{Call, New, FromUnixSeconds, AddDays, AddHours, AddMinutes, AddSeconds, AddYears, AddMonths, ReadText, ReadProfile, ReadPacket, answer}
 use Rattle.host_calls.specs.Given.{has, placed_numbers}
-use Rattle.theorems_round_trip.proofs.Refusals.{Numbered, value, by_number, covers, has_covers, check_numbered}
+use Rattle.host_calls.proofs.Numbered.{Numbered, value, by_number, covers, has_covers, check_numbered}
 use Rattle.theorems_round_trip.proofs.BuildRefusals.{rule_numbers, set_item_numbered}
 use Rattle.theorems_packets.proofs.Refusals.{item_at_numbered}
 

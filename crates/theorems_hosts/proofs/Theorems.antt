@@ -42,7 +42,8 @@ use Rattle.theorems_profile.proofs.Refusals.{profile_among, profile_accepted}
 use Rattle.theorems_hosts.proofs.Places.{text_place}
 use Rattle.theorems_packets.proofs.Refusals.{packet_among}
 use Rattle.theorems_round_trip.proofs.TextRefusals.{text_among}
-use Rattle.theorems_round_trip.proofs.Refusals.{Numbered, value, by_number, next, wider, steps, test_numbered, Among, a_value, a_refusal, accept_numbered, from_unix_seconds_numbered, add_seconds_numbered, add_units_numbered, add_years_numbered, add_months_numbered}
+use Rattle.host_calls.proofs.Numbered.{Numbered, value, by_number, next, wider}
+use Rattle.theorems_round_trip.proofs.Refusals.{steps, test_numbered, Among, a_value, a_refusal, accept_numbered, from_unix_seconds_numbered, add_seconds_numbered, add_units_numbered, add_years_numbered, add_months_numbered}
 use Rattle.theorems_round_trip.proofs.Accepted.{Good, Any, whole_built, accept_good, unix_good, days_good, hours_good, minutes_good, seconds_good, years_good, months_good, accepted_built}
 use Rattle.theorems_hosts.specs.Promises.{Answers, a_record, no_record, AnswersMoment, a_moment, no_moment, AnswersNumber, a_number, no_number, Writes, a_text, no_text}
 

@@ -11,7 +11,8 @@ use Rattle.packet_fields.specs.declared.Fields.{Fields}
 use Rattle.packet.specs.Packet.{header, item_at, items_from, build_items, read_packet}
 use Rattle.builder.specs.Building.{build}
 use Rattle.items.specs.declared.Item.{Item}
-use Rattle.theorems_round_trip.proofs.Refusals.{Numbered, steps, Among, answers, among_wider, test_numbered, wider}
+use Rattle.host_calls.proofs.Numbered.{Numbered, wider}
+use Rattle.theorems_round_trip.proofs.Refusals.{steps, Among, answers, among_wider, test_numbered}
 use Rattle.theorems_round_trip.proofs.BuildRefusals.{build_among}
 
 -- what a header and what an item is refused with

@@ -23,7 +23,8 @@ use Rattle.text_profile.specs.declared.Form.{Form}
 use Rattle.text_profile.specs.declared.Form.TheVariants as variant
 use Rattle.text_profile.proofs.Forms.{plain_year}
 use Rattle.host_calls.specs.Given.{profile_numbers, profile_numbers_accepted}
-use Rattle.theorems_round_trip.proofs.Refusals.{Numbered, value, by_number, wider, steps, test_numbered, Among, a_value, first_then, step_then, placed_among}
+use Rattle.host_calls.proofs.Numbered.{Numbered, value, by_number, wider}
+use Rattle.theorems_round_trip.proofs.Refusals.{steps, test_numbered, Among, a_value, first_then, step_then, placed_among}
 use Rattle.theorems_round_trip.proofs.TextRefusals.{tests_among}
 use Rattle.theorems_profile.proofs.Dates.{in_valid}
 

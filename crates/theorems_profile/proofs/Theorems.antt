@@ -19,7 +19,8 @@ use Rattle.extended.specs.declared.ExtendedDateTime.{ExtendedDateTime}
 use Rattle.host_answers.specs.Hosts.{placed_answer}
 use Rattle.host_calls.specs.Calls.{answer, ReadProfile}
 use Rattle.host_calls.specs.Given.{profile_numbers}
-use Rattle.theorems_round_trip.proofs.Refusals.{positive, Among, a_refusal}
+use Rattle.host_calls.proofs.Numbered.{positive}
+use Rattle.theorems_round_trip.proofs.Refusals.{Among, a_refusal}
 use Rattle.answers.specs.Numbers as refusal
 use Rattle.std.specs.Prelude.{Option, Some, None}
 use Rattle.weeks.specs.declared.WeekDate.{WeekDate}

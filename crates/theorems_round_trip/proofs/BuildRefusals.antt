@@ -23,7 +23,8 @@ use Rattle.rules.specs.declared.Zone.{Zone}
 use Rattle.rules.specs.declared.Zone.TheVariants as given-zone
 use Rattle.rules.specs.declared.DateTimeBuilder.{DateTimeBuilder}
 use Rattle.builder.specs.Building.{start, on_date, on_offset, on_time, weekday_sum, delta, forwarded, on_weekday, add_relatives, with_zone, on_zone, absolute, build_extended, built, build}
-use Rattle.theorems_round_trip.proofs.Refusals.{Numbered, value, by_number, then, steps, Among, a_value, a_refusal, first_then, placed_among, among_wider, test_sum, accept_sum, with_date_numbered, with_time_numbered, with_offset_numbered, add_units_numbered, add_relative_numbered}
+use Rattle.host_calls.proofs.Numbered.{Numbered, value, by_number, then}
+use Rattle.theorems_round_trip.proofs.Refusals.{steps, Among, a_value, a_refusal, first_then, placed_among, among_wider, test_sum, accept_sum, with_date_numbered, with_time_numbered, with_offset_numbered, add_units_numbered, add_relative_numbered}
 
 -- ---- the building
 

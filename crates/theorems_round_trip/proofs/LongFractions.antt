@@ -21,7 +21,8 @@ use Rattle.host_answers.specs.Hosts.{placed_answer}
 use Rattle.host_answers.specs.declared.Answer.{Answer}
 use Rattle.host_calls.specs.Given.{record_numbers}
 use Rattle.host_calls.specs.Calls.{answer, ReadText}
-use Rattle.theorems_round_trip.proofs.Refusals.{wider, Among, not_among, test_numbered}
+use Rattle.host_calls.proofs.Numbered.{wider}
+use Rattle.theorems_round_trip.proofs.Refusals.{Among, not_among, test_numbered}
 use Rattle.theorems_round_trip.proofs.BuildRefusals.{build_among}
 use Rattle.theorems_round_trip.proofs.TextRefusals.{tests_among}
 

@@ -1,18 +1,15 @@
 -- Which numbers the calendar refuses with. Each law is named after the definition whose refusals it bounds, and `search` puts it together as
 -- that definition is put together. Assumes nothing.
-use native.Mathlib.Omega.{arith}
-use Prim.Native.Nat.{ℕ, zero, suc, ◌<◌}
-use mathlib.Core.Path.{◌≡◌, refl, sym, ◌∙◌}
-use Rattle.integers.proofs.Differences.{untrue}
+use Prim.Native.Nat.{ℕ}
+use mathlib.Core.Path.{◌≡◌, refl}
 use mathlib.Core.List.{List, [], ◌∷◌}
 use lib.Dec.{eqb}
-use borrow.Author.Tests.{eqb-true}
-use mathlib.Core.Bool.{Bool, true, false, cond, ◌||◌, ◌&&◌}
+use mathlib.Core.Bool.{Bool, true, false, ◌||◌}
 use lib.IntN.{ℤ}
 use borrow.Author.Rules.{rules}
 use Rattle.std.specs.Prelude.{Option, Some, None}
-use Rattle.answers.specs.Outcome.{Outcome, accepted, refused, check, ◌>>=◌, ◌>>◌}
-use Rattle.primitive.proofs.Rows.{halves}
+use Rattle.answers.specs.Outcome.{Outcome}
+use Rattle.host_calls.proofs.Numbered.{Numbered, value, by_number, covers, has_covers, not_in, then, next, check_numbered, cond_numbered, wider}
 use Rattle.host_calls.specs.Given.{has, record_numbers, moment_numbers, sum_numbers}
 use Rattle.extended.specs.Extended.{checked, from_zero, test_date, test_time, test_offset, test, test_year, date, accept, from_clock, from_unix_seconds, with_date, with_time, with_offset, carried, add_seconds, add_units, add_days, add_hours, add_minutes, clamp, add_years, add_months}
 use Rattle.answers.specs.Placed as placing
@@ -25,59 +22,7 @@ use Rattle.relative.specs.declared.Relative.TheVariants as relative
 use Rattle.rules.specs.Rules.{wanted}
 use Rattle.builder.specs.Building.{add_relative}
 
--- a value, or a refusal with a number of the list
-pub data Numbered (g : List ℕ) {A : Type 0} : Outcome A → Type 0 where
-  value : (a : A) → Numbered g (accepted a)
-  by_number : (k : ℕ) → has g k ≡ true → Numbered g (refused k)
-
--- whether each number of one list is in another
-abbrev pub covers : List ℕ → List ℕ → Bool
-covers [] h = true
-covers (n ∷ ns) h = has h n && covers ns h
-
-pub has_covers : (g h : List ℕ) (k : ℕ) → covers g h ≡ true → has g k ≡ true → has h k ≡ true
-has_covers [] h k c e = cc
-has_covers (n ∷ ns) h k c e = by (λ f. has_covers ns h k both.1 f) (eqb k n) refl e
-  where
-    both : (has h n ≡ true) × (covers ns h ≡ true)
-    both = halves (has h n) (covers ns h) c
-
-    by : (has ns k ≡ true → has h k ≡ true) → (t : Bool) → eqb k n ≡ t → t || has ns k ≡ true → has h k ≡ true
-    by later true f z = rw (eqb-true k n f) both.0
-    by later false f z = later z
-
--- a number that is in a list is none that is not
-pub not_in : (g : List ℕ) (k n : ℕ) → has g n ≡ false → has g k ≡ true → k ≡ n → ⊥
-not_in g k n f e z = untrue (sym f ∙ rw z at e)
-
-pub positive : (g : List ℕ) (k : ℕ) → has g 0 ≡ false → has g k ≡ true → 0 < k
-positive g zero f e = absurd (not_in g 0 0 f e refl)
-positive g (suc k) f e = omega arith
-
 module _ {g : List ℕ} where
-  pub wider : {A : Type 0} {o : Outcome A} (h : List ℕ) → covers g h ≡ true → Numbered g o → Numbered h o
-  wider h c (value a) = value a
-  wider h c (by_number k e) = by_number k (has_covers g h k c e)
-
-  pub given : {A : Type 0} {k : ℕ} → Numbered g {A = A} (refused k) → has g k ≡ true
-  given (by_number k e) = e
-
-  pub then : {A B : Type 0} {p : Outcome A} {f : A → Outcome B} → Numbered g p → ((a : A) → Numbered g (f a)) → Numbered g (p >>= f)
-  then (value a) f = f a
-  then (by_number k e) f = by_number k e
-
-  pub next : {B : Type 0} {p : Outcome (Unit {0})} {q : Outcome B} → Numbered g p → Numbered g q → Numbered g (p >> q)
-  next (value a) h = h
-  next (by_number k e) h = by_number k e
-
-  pub check_numbered : (b : Bool) (k : ℕ) → has g k ≡ true → Numbered g (check b k)
-  check_numbered true k e = value tt
-  check_numbered false k e = by_number k e
-
-  pub cond_numbered : {A : Type 0} (b : Bool) {p q : Outcome A} → Numbered g p → Numbered g q → Numbered g (cond b p q)
-  cond_numbered true h k = h
-  cond_numbered false h k = k
-
   pub checked_numbered : (c : Option ℤ) → has g 18 ≡ true → Numbered g (checked c)
   checked_numbered (Some z) e = value z
   checked_numbered None e = by_number 18 e

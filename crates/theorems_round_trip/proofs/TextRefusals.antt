@@ -27,7 +27,8 @@ use Rattle.builder.specs.Building.{build}
 use Rattle.host_calls.specs.Given.{has, record_numbers, text_numbers}
 use Rattle.text_tests.specs.Tests.{test_text}
 use Rattle.text_general.specs.Reading.{items_of, build_parsed, read_parsed, read_text}
-use Rattle.theorems_round_trip.proofs.Refusals.{Numbered, by_number, covers, wider, Among, a_refusal, step_then, placed_among, among_wider, check_numbered, has_covers, test_numbered}
+use Rattle.host_calls.proofs.Numbered.{Numbered, by_number, covers, wider, check_numbered, has_covers}
+use Rattle.theorems_round_trip.proofs.Refusals.{Among, a_refusal, step_then, placed_among, among_wider, test_numbered}
 use Rattle.theorems_round_trip.proofs.BuildRefusals.{Texted, a_date, a_time, a_date_time, a_relative, AllTexted, no_item, an_item, text_build_among}
 
 -- ---- the items of a text

@@ -25,7 +25,8 @@ use Rattle.writer.proofs.Texts.{text_long}
 use Rattle.writer.proofs.Theorems.{one_owner}
 use Rattle.text_general.specs.Reading.{read_text}
 use Rattle.theorems_round_trip.proofs.Texts.{shift, read_alone, read_moved}
-use Rattle.theorems_round_trip.proofs.Refusals.{Numbered, value, by_number, test_numbered, not_in, positive, not_among, given, Among, a_value, placed_among, add_seconds_numbered}
+use Rattle.host_calls.proofs.Numbered.{Numbered, value, by_number, not_in, positive, given}
+use Rattle.theorems_round_trip.proofs.Refusals.{test_numbered, not_among, Among, a_value, placed_among, add_seconds_numbered}
 use Rattle.theorems_round_trip.proofs.TextRefusals.{any_base}
 use Rattle.host_answers.specs.Hosts.{placed_answer}
 use Rattle.host_calls.specs.Given.{record_numbers, sum_numbers}

@@ -1,0 +1,2 @@
+-- The proofs of the crate `host_calls`.
+pub mod Numbered
