@@ -1,0 +1,2 @@
+-- The definitions of the crate `theorems_board`.
+pub mod Promises
