@@ -13,6 +13,7 @@ mod replies;
 
 use arguments::Arguments;
 use arrayvec::ArrayVec;
+use replay_lines::Lines;
 use replies::Reply;
 use std::io::{Stdout, Write};
 
@@ -44,22 +45,12 @@ fn reply(line: &ArrayVec<u8, 4096>) -> Reply {
 
 // A write that fails ends the program. Nothing says that the input ends, so the turns are counted up to a number that no run reaches.
 fn replay(out: &mut Stdout) -> std::io::Result<()> {
-    let mut chunk = io::buffer();
-    let mut line = ArrayVec::new();
+    let mut lines = Lines::new();
     for _ in 0..u64::MAX {
-        let n = io::read_full(0, &mut chunk);
-        if n == 0 {
+        let Some(line) = lines.next() else {
             return Ok(());
-        }
-        for byte in &chunk[..n] {
-            if *byte == b'\n' {
-                writeln!(out, "{}", reply(&line))?;
-                line.clear();
-            } else {
-                // A line that has no room left stays full, and is answered so.
-                let _ = line.try_push(*byte);
-            }
-        }
+        };
+        writeln!(out, "{}", reply(line))?;
     }
     Ok(())
 }

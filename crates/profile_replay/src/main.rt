@@ -10,7 +10,7 @@
 
 use arrayvec::ArrayVec;
 use extended::{DateParts, ExtendedDateTime, TimeParts};
-use replay_lines::Line;
+use replay_lines::{Line, Lines};
 use std::io::{Stdout, Write};
 
 fn base() -> ExtendedDateTime {
@@ -54,22 +54,12 @@ fn reply(out: &mut Stdout, line: &ArrayVec<u8, 4096>) -> std::io::Result<()> {
 
 // A write that fails ends the program. Nothing says that the input ends, so the turns are counted up to a number that no run reaches.
 fn replay(out: &mut Stdout) -> std::io::Result<()> {
-    let mut chunk = io::buffer();
-    let mut line = ArrayVec::new();
+    let mut lines = Lines::new();
     for _ in 0..u64::MAX {
-        let n = io::read_full(0, &mut chunk);
-        if n == 0 {
+        let Some(line) = lines.next() else {
             return Ok(());
-        }
-        for byte in &chunk[..n] {
-            if *byte == b'\n' {
-                reply(out, &line)?;
-                line.clear();
-            } else {
-                // A line that has no room left stays full, and is answered so.
-                let _ = line.try_push(*byte);
-            }
-        }
+        };
+        reply(out, line)?;
     }
     Ok(())
 }

@@ -1,13 +1,17 @@
-// A line of a list that `items_replay` or `profile_replay` replays: a heading, or a text with the reason why it is in the list.
+// The lists that the replay programs read. `input` has the lines of standard input. In a list of `items_replay` or `profile_replay` a line is a
+// heading, or a text with the reason why it is in the list.
 //
 // A text is followed by a tab, and what follows the tab is skipped; a line without a tab is a heading. In both `{N}` is the byte of that number
 // and `{N:PART}` is N times PART, without a brace.
 #![tactic(auto)]
 
+mod input;
+
 ghost use Rattle.std.specs.Prelude.{◌<◌, ◌≤◌, IfSome, length};
 ghost use Rattle.replay_lines.specs.Lines.{bytes_of};
 
 use arrayvec::ArrayVec;
+pub use input::Lines;
 
 // The most bytes of a line's text. It is more than the library reads, so that an oversize text can be in a list.
 const MOST_BYTES: usize = 8192;
