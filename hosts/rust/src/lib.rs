@@ -35,10 +35,29 @@
 //! assert_eq!(refusal.to_string(), "twice at item 2");
 //! # Ok::<(), seqtullo::Refusal>(())
 //! ```
+//!
+//! A board says which plug-in stops next.
+//!
+//! ```
+//! use seqtullo::{Board, Deadline, Record, MAX_PLACES};
+//!
+//! let start = Record::new(2024, 3, 13, 9, 30, 0, 0, 0)?;
+//! let mut run = [Deadline::default(); MAX_PLACES];
+//! let mut board = Board::new(&mut run);
+//! board.join(Deadline::at(7, start.add_hours(36)?)?)?;
+//! let next = board.join(Deadline::at(8, start.add_minutes(90)?)?)?;
+//! assert_eq!(next.map(|deadline| deadline.id), Some(8));
+//!
+//! let next = board.leave(8)?;
+//! assert_eq!(next.map(|deadline| deadline.id), Some(7));
+//! # Ok::<(), seqtullo::Refusal>(())
+//! ```
 
+mod board;
 mod packet;
 mod raw;
 
+pub use board::{Board, BoardRefusal, Deadline, MAX_PLACES};
 pub use packet::{Clock, Day, PacketBuilder, Unit, Zone};
 
 use std::error::Error;
@@ -87,9 +106,9 @@ pub struct Refusal {
 impl Refusal {
     /// The word of the table of answers.
     pub fn word(self) -> &'static str {
-        const WORDS: [&str; 23] = [
+        const WORDS: [&str; 26] = [
             "accepted", "oversize", "foreign", "unread", "stopped", "packet", "twice", "rival", "pure", "over", "under", "month", "day",
-            "hour", "minute", "second", "nanosecond", "offset", "sum", "short", "seam", "week", "fraction",
+            "hour", "minute", "second", "nanosecond", "offset", "sum", "short", "seam", "week", "fraction", "present", "full", "absent",
         ];
         WORDS.get(self.number as usize).copied().unwrap_or("unknown")
     }

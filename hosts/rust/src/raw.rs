@@ -1,6 +1,6 @@
 //! The C functions of the library, as in include/seqtullo.h. Every one takes any arguments.
 
-use crate::Record;
+use crate::{Deadline, Record};
 
 #[repr(C)]
 pub struct Answer {
@@ -27,6 +27,13 @@ pub struct Written {
     pub length: u32,
 }
 
+#[repr(C)]
+pub struct BoardAnswer {
+    pub number: u32,
+    pub count: u32,
+    pub next: Deadline,
+}
+
 extern "C" {
     pub fn seqtullo_read_text(text: *const u8, length: usize, base: Record) -> Answer;
     pub fn seqtullo_read_profile(text: *const u8, length: usize, base: Record) -> Answer;
@@ -44,4 +51,7 @@ extern "C" {
     pub fn seqtullo_weekday(record: Record) -> Number;
     pub fn seqtullo_day_of_year(record: Record) -> Number;
     pub fn seqtullo_days_in_month(year: u32, month: u8) -> u8;
+    pub fn seqtullo_board_join(run: *mut Deadline, run_places: usize, count: usize, joining: Deadline) -> BoardAnswer;
+    pub fn seqtullo_board_leave(run: *mut Deadline, run_places: usize, count: usize, id: u32) -> BoardAnswer;
+    pub fn seqtullo_board_next(run: *const Deadline, run_places: usize, count: usize) -> BoardAnswer;
 }
