@@ -1,9 +1,10 @@
 /*
- * A libFuzzer target over seqtullo_read_text, seqtullo_read_packet, seqtullo_write and seqtullo_read_profile: any bytes, and an abort where an
- * answer is not well formed. The first byte chooses: its two lowest bits the function, the next whether the base or record is of eight numbers
- * of the input.
+ * A libFuzzer target over seqtullo_read_text, seqtullo_read_packet, seqtullo_write, seqtullo_read_profile and the deadline board: any bytes, and
+ * an abort where an answer is not well formed. The first byte chooses: its two lowest bits the function, the next whether the base or record is
+ * of eight numbers of the input; where the fourth bit is set, the function is one of the board's.
  */
 #define _DEFAULT_SOURCE
+#include "plain_board.h"
 #include "seqtullo.h"
 #include <stdio.h>
 #include <stdlib.h>
@@ -12,8 +13,9 @@
 #include <unistd.h>
 
 enum { MOST_TEXT = 4096, MOST_ITEMS = 64, ITEM = 28, DATE = 10, KEPT = 256, LAST_YEAR = 2147485547, ROOM = 8192 };
-enum { TEXT, PACKET, WRITE, PROFILE, FUNCTIONS };
-enum { OWN_RECORD = 4, RECORD = 17 };
+enum { TEXT, PACKET, WRITE, PROFILE, BOARD, FUNCTIONS };
+enum { OWN_RECORD = 4, RECORD = 17, A_BOARD = 8 };
+enum { BOARD_HEADER = 20, DEADLINE = 16 };
 
 #define WANT(condition) ((condition) ? (void)0 : fail(#condition, __LINE__))
 
@@ -36,10 +38,11 @@ static void fail(const char *condition, int line)
 
 static void show(void)
 {
-    fprintf(stderr, "number      texts    packets     writes   profiles\n");
+    fprintf(stderr, "number      texts    packets     writes   profiles     boards\n");
     for (int n = 0; n < 32; n++)
-        if (seen[TEXT][n] || seen[PACKET][n] || seen[WRITE][n] || seen[PROFILE][n])
-            fprintf(stderr, "%6d %10lu %10lu %10lu %10lu\n", n, seen[TEXT][n], seen[PACKET][n], seen[WRITE][n], seen[PROFILE][n]);
+        if (seen[TEXT][n] || seen[PACKET][n] || seen[WRITE][n] || seen[PROFILE][n] || seen[BOARD][n])
+            fprintf(stderr, "%6d %10lu %10lu %10lu %10lu %10lu\n", n, seen[TEXT][n], seen[PACKET][n], seen[WRITE][n], seen[PROFILE][n],
+                    seen[BOARD][n]);
 }
 
 int LLVMFuzzerInitialize(int *argc, char ***argv)
@@ -60,6 +63,12 @@ static void note(int function, uint32_t number, uint32_t place, uint32_t more)
     uint32_t h = ((uint32_t)function * 32 + number) * 0x9e3779b1u ^ (place < 16 ? place : 16) * 0x85ebca77u ^ more * 0xc2b2ae3du;
     seen[function][number]++;
     counters[(h ^ h >> 15) % sizeof counters] = 1;
+}
+
+/* The function that the first byte of an input chooses. */
+static int function_of(unsigned choice)
+{
+    return choice & A_BOARD ? BOARD : (int)(choice & 3);
 }
 
 static uint32_t of_record(struct seqtullo_record r)
@@ -347,6 +356,108 @@ static void one_record(struct input in, struct seqtullo_record r)
     note(WRITE, w.number, 0, w.length);
 }
 
+/* A call of the board: the input's first bytes, then its deadlines. */
+struct board_call {
+    unsigned function;
+    size_t places, count;
+    struct seqtullo_deadline joining;
+};
+
+static struct seqtullo_deadline take_deadline(struct input *in)
+{
+    struct seqtullo_deadline d;
+    memset(&d, 0, sizeof d);
+    d.id = (uint32_t)take(in, 4);
+    d.moment = (int64_t)take(in, 8);
+    d.nanosecond = (uint32_t)take(in, 4);
+    return d;
+}
+
+static struct board_call take_board_call(struct input *in)
+{
+    struct board_call c;
+    c.function = (unsigned)take(in, 1) % 3;
+    c.places = (size_t)take(in, 1);
+    c.count = (size_t)take(in, 2);
+    c.joining = take_deadline(in);
+    /* A count that is too large by any number. */
+    if (c.count == 0xffff)
+        c.count = SIZE_MAX;
+    return c;
+}
+
+static int same_deadline(struct seqtullo_deadline a, struct seqtullo_deadline b)
+{
+    return a.id == b.id && a.moment == b.moment && a.nanosecond == b.nanosecond;
+}
+
+static struct seqtullo_board_answer call_board(const struct board_call *c, struct seqtullo_deadline *run)
+{
+    if (c->function == 0)
+        return seqtullo_board_join(run, c->places, c->count, c->joining);
+    if (c->function == 1)
+        return seqtullo_board_leave(run, c->places, c->count, c->joining.id);
+    return seqtullo_board_next(run, c->places, c->count);
+}
+
+static struct seqtullo_board_answer call_plain_board(const struct board_call *c, struct seqtullo_deadline *run)
+{
+    if (c->function == 0)
+        return plain_board_join(run, c->places, c->count, c->joining);
+    if (c->function == 1)
+        return plain_board_leave(run, c->places, c->count, c->joining.id);
+    return plain_board_next(run, c->places, c->count);
+}
+
+/* A plug-in that has joined leaves again, and the board is as before but for the place that it had. */
+static void leaves_again(const struct board_call *c, struct seqtullo_deadline *run, const struct seqtullo_deadline *before)
+{
+    static const struct seqtullo_deadline zeros;
+    struct seqtullo_board_answer a = seqtullo_board_leave(run, c->places, c->count + 1, c->joining.id);
+    WANT(a.number == 0 && a.count == c->count);
+    for (size_t i = 0; i < c->places; i++)
+        WANT(same_deadline(run[i], i == c->count ? zeros : before[i]));
+}
+
+/* No plug-in of the board stops before the next one, which is one of them. */
+static void is_next(const struct seqtullo_deadline *run, struct seqtullo_board_answer a)
+{
+    WANT(a.count == 0 || same_deadline(run[plain_place(run, a.count, a.next.id)], a.next));
+    for (size_t i = 0; i < a.count; i++)
+        WANT(!plain_before(&run[i], &a.next));
+}
+
+/* A call on a run at the end of the room and at its front. The answer and every place are those of plain C; in a refusal no byte changes. */
+static void one_board(struct input in)
+{
+    static const struct seqtullo_deadline zeros;
+    static struct seqtullo_deadline before[256], wanted[256];
+    struct board_call c = take_board_call(&in);
+    size_t bytes = c.places * sizeof *before;
+    for (size_t i = 0; i < c.places; i++) {
+        before[i] = take_deadline(&in);
+        /* Ids differ where the input has ended. */
+        before[i].id += (uint32_t)i;
+    }
+    memcpy(wanted, before, bytes);
+    struct seqtullo_board_answer w = call_plain_board(&c, wanted);
+    for (int i = 0; i < 2; i++) {
+        struct seqtullo_deadline *run = (struct seqtullo_deadline *)(i == 0 ? front + ROOM - bytes : front);
+        memcpy(run, before, bytes);
+        struct seqtullo_board_answer a = call_board(&c, run);
+        WANT(a.number == w.number && a.count == w.count && same_deadline(a.next, w.next));
+        for (size_t k = 0; k < c.places; k++)
+            WANT(same_deadline(run[k], wanted[k]));
+        if (a.number != 0)
+            WANT(a.count == 0 && same_deadline(a.next, zeros) && memcmp(run, before, bytes) == 0);
+        else
+            is_next(run, a);
+        if (a.number == 0 && c.function == 0)
+            leaves_again(&c, run, before);
+    }
+    note(BOARD, w.number, (uint32_t)c.places, c.function + 4u * (w.count < 8 ? w.count : 8) + 64u * (w.count < c.places));
+}
+
 /* Numbers in range, but for the day of some months. */
 static void mend_record(uint8_t *r)
 {
@@ -397,25 +508,54 @@ static size_t mend_profile(uint8_t *text, size_t length, size_t most, unsigned s
     return DATE;
 }
 
+/* A count that is at most the places, mostly few places, and a nanosecond in range, both at their bounds now and then. An id of the board in most
+   calls that are to leave it. */
+static size_t mend_board(uint8_t *board, size_t length, unsigned seed)
+{
+    static const uint8_t most_nanoseconds[] = {0xff, 0xc9, 0x9a, 0x3b}, too_many[] = {0, 0xca, 0x9a, 0x3b};
+    if (length < BOARD_HEADER)
+        return length;
+    uint8_t places = (uint8_t)(board[1] % (seed % 4 == 0 ? SEQTULLO_MAX_PLACES + 1 : 12));
+    if (seed % 64 == 1)
+        places = (uint8_t)(SEQTULLO_MAX_PLACES + seed / 64 % 2);
+    uint8_t count = (uint8_t)(board[2] % (places + 1));
+    uint8_t header[] = {board[0], places, count, 0};
+    memcpy(board, header, sizeof header);
+    board[BOARD_HEADER - 1] %= 59;
+    if (seed % 64 == 2)
+        memcpy(board + BOARD_HEADER - 4, seed / 64 % 2 ? most_nanoseconds : too_many, 4);
+    size_t at = count ? seed / 4 % count : 0, id = BOARD_HEADER + DEADLINE * at;
+    if (board[0] % 3 == 1 && count && seed % 16 < 12 && id + 4 <= length) {
+        uint32_t n = (uint32_t)at;
+        for (size_t i = 0; i < 4; i++)
+            n += (uint32_t)board[id + i] << 8 * i;
+        for (size_t i = 0; i < 4; i++)
+            board[4 + i] = (uint8_t)(n >> 8 * i);
+    }
+    return length;
+}
+
 /* libFuzzer's change, or for some packets just an item more; then in three of four inputs what would be refused at the door is mended. */
 size_t LLVMFuzzerMutate(uint8_t *bytes, size_t length, size_t most);
 size_t LLVMFuzzerCustomMutator(uint8_t *bytes, size_t length, size_t most, unsigned seed)
 {
-    if (length == 0 || (bytes[0] & 3) != PACKET || seed % 16 != 1)
+    if (length == 0 || function_of(bytes[0]) != PACKET || seed % 16 != 1)
         length = LLVMFuzzerMutate(bytes, length, most);
     if (length == 0 || seed % 4 == 0)
         return length;
+    if (function_of(bytes[0]) == BOARD)
+        return 1 + mend_board(bytes + 1, length - 1, seed / 4);
     size_t at = bytes[0] & OWN_RECORD ? 1 + RECORD : 1;
     if (length < at)
         return length;
     if (at > 1)
         mend_record(bytes + 1);
-    if ((bytes[0] & 3) == PACKET)
+    if (function_of(bytes[0]) == PACKET)
         return at + mend_packet(bytes + at, length - at, most - at, seed / 4);
-    if ((bytes[0] & 3) != WRITE)
+    if (function_of(bytes[0]) != WRITE)
         for (size_t i = at; i < length; i++)
             bytes[i] &= 127;
-    if ((bytes[0] & 3) == PROFILE)
+    if (function_of(bytes[0]) == PROFILE)
         return at + mend_profile(bytes + at, length - at, most - at, seed / 4);
     return length;
 }
@@ -425,9 +565,14 @@ int LLVMFuzzerTestOneInput(const uint8_t *bytes, size_t length)
     struct input in = {bytes, length};
     struct seqtullo_record r = {2024, 3, 13, 9, 30, 0, 0, 0};
     unsigned choice = (unsigned)take(&in, 1);
+    int function = function_of(choice);
+    if (function == BOARD) {
+        one_board(in);
+        return 0;
+    }
     if (choice & OWN_RECORD) {
         r = take_record(&in);
-    } else if ((choice & 3) == WRITE) {
+    } else if (function == WRITE) {
         int64_t seconds = (int64_t)take(&in, 8) % 67768036191676800;
         uint32_t nanosecond = (uint32_t)(take(&in, 4) % 1000000000);
         int32_t offset = (int32_t)(take(&in, 2) % 2881) * 60 - 86400;
@@ -437,11 +582,11 @@ int LLVMFuzzerTestOneInput(const uint8_t *bytes, size_t length)
     }
     if (in.length > ROOM)
         return 0;
-    if ((choice & 3) == PACKET)
+    if (function == PACKET)
         one_packet(in, r);
-    else if ((choice & 3) == WRITE)
+    else if (function == WRITE)
         one_record(in, r);
-    else if ((choice & 3) == PROFILE)
+    else if (function == PROFILE)
         one_profile(in, r);
     else
         one_text(in, r);

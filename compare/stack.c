@@ -19,6 +19,8 @@ struct arguments {
     struct seqtullo_record record;
     int64_t amount;
     uint32_t nanosecond;
+    struct seqtullo_deadline run[SEQTULLO_MAX_PLACES], joining;
+    size_t places, count;
 };
 
 /* What the next call is made with. */
@@ -45,6 +47,9 @@ static void add_months(void) { number = seqtullo_add_months(now.record, (int32_t
 static void weekday(void) { number = seqtullo_weekday(now.record).number; }
 static void day_of_year(void) { number = seqtullo_day_of_year(now.record).number; }
 static void days_in_month(void) { number = seqtullo_days_in_month(now.record.year, now.record.month); }
+static void board_join(void) { number = seqtullo_board_join(now.run, now.places, now.count, now.joining).number; }
+static void board_leave(void) { number = seqtullo_board_leave(now.run, now.places, now.count, now.joining.id).number; }
+static void board_next(void) { number = seqtullo_board_next(now.run, now.places, now.count).number; }
 
 static struct function {
     const char *name;
@@ -69,6 +74,9 @@ static struct function {
     {.name = "weekday", .call = weekday},
     {.name = "day_of_year", .call = day_of_year},
     {.name = "days_in_month", .call = days_in_month},
+    {.name = "board_join", .call = board_join},
+    {.name = "board_leave", .call = board_leave},
+    {.name = "board_next", .call = board_next},
 };
 
 enum { FUNCTIONS = sizeof functions / sizeof *functions, TEXTS = 2, BY_BYTES = 3 };
@@ -119,7 +127,19 @@ static uint64_t next(void)
     return state;
 }
 
-/* An accepted record, or in one of four calls one with any numbers, and a number of any size. */
+/* A board of any size, full or with a place left, now and then with an id twice, and a plug-in that joins or leaves it. */
+static void choose_board(void)
+{
+    now.count = next() % (SEQTULLO_MAX_PLACES + 1);
+    now.places = now.count + (now.count < SEQTULLO_MAX_PLACES ? next() % 2 : 0);
+    for (size_t i = 0; i < SEQTULLO_MAX_PLACES; i++)
+        now.run[i] = (struct seqtullo_deadline){(uint32_t)i, (int64_t)next() >> next() % 64, (uint32_t)(next() % 1000000000)};
+    if (next() % 4 == 0)
+        now.run[next() % SEQTULLO_MAX_PLACES].id = 0;
+    now.joining = now.run[next() % SEQTULLO_MAX_PLACES];
+}
+
+/* An accepted record, or in one of four calls one with any numbers, a number of any size, and a board. */
 static void choose(void)
 {
     struct seqtullo_answer a = seqtullo_from_unix_seconds((int64_t)(next() % 40000000000000000u), (uint32_t)(next() % 1000000000), (int32_t)(next() % 2881) * 60 - 86400);
@@ -130,6 +150,7 @@ static void choose(void)
     now.amount = (int64_t)next() >> next() % 64;
     now.nanosecond = (uint32_t)(next() >> 32 >> next() % 32);
     now.length = next() % 64;
+    choose_board();
 }
 
 static void *thread(void *done)
