@@ -12,6 +12,7 @@ use lib.Dec.{eqb}
 use lib.ListN.{length, get_or, take, drop, drop_of_length-le, take-append-drop}
 use lib.Seq.{drop-cons, take-suc, take_all}
 use Rattle.std.proofs.lemmas.Cmp.{nat_eq_equiv}
+use Rattle.std.proofs.lemmas.List.Recursion.{or_push}
 use Rattle.board.specs.Ids.{has_id, has_twice, place_of}
 use Rattle.board.specs.Board.{zeros}
 use Rattle.board.specs.declared.Deadline.{Deadline}
@@ -75,8 +76,7 @@ or_both false u v w f g e = rw (g e) (or-true v)
 
 pub ids_joined : (l : List Deadline) (r : Deadline) (id : ℕ) → has_id (l ++ r ∷ []) id ≡ (has_id l id || eqb r.id id)
 unfolding has_id
-ids_joined [] r id = or-false (eqb r.id id)
-ids_joined (x ∷ l) r id = ap (λ t. eqb x.id id || t) (ids_joined l r id) ∙ sym (or_assoc (eqb x.id id) (has_id l id) (eqb r.id id))
+ids_joined l r id = or_push (λ m. has_id m id) (λ x. eqb x.id id) refl (λ x m. refl) l r
 
 id_front : (a b : List Deadline) (id : ℕ) → has_id a id ≡ true → has_id (a ++ b) id ≡ true
 unfolding has_id

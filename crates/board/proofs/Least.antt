@@ -7,8 +7,9 @@ use lib.ListN.{length, get_or}
 use native.Mathlib.Omega.{arith}
 use borrow.Author.Count.{below_more}
 use borrow.Author.Rules.{rules}
-use Rattle.std.proofs.lemmas.Bool.{not-true, or_parts}
+use Rattle.std.proofs.lemmas.Bool.{not-true}
 use Rattle.std.proofs.lemmas.List.{get_or_default}
+use Rattle.std.proofs.lemmas.List.Recursion.{or_at, or_from_places}
 use Rattle.std.specs.Prelude.{Contains, find, Some, None}
 use Rattle.board.specs.Order.{before, any_before, first}
 use Rattle.board.specs.Board.{zeros}
@@ -27,14 +28,15 @@ Least records a = Contains records a × Upto records (length records) a
 
 none_before : (records : List Deadline) (a : Deadline) → Upto records (length records) a → any_before records a ≡ false
 unfolding any_before
-none_before [] a h = refl
-none_before (r ∷ records) a h = rw (h 0 (omega arith)) (none_before records a (λ k l. h (suc k) (omega arith)))
+none_before records a h = or_from_places (λ l. any_before l a) (λ b. before b a) refl (λ b l. refl) records zeros h
 
 not_before : (records : List Deadline) (a : Deadline) → any_before records a ≡ false → Upto records (length records) a
 unfolding any_before
-not_before [] a e k l = absurd (omega arith)
-not_before (r ∷ records) a e zero l = (or_parts (before r a) (any_before records a) e).0
-not_before (r ∷ records) a e (suc k) l = not_before records a (or_parts (before r a) (any_before records a) e).1 k (omega arith)
+not_before records a e k l = by (before (get_or records k zeros) a) refl
+  where
+    by : (t : Bool) → before (get_or records k zeros) a ≡ t → t ≡ false
+    by false q = refl
+    by true q = absurd (true≢false (sym (or_at (λ m. any_before m a) (λ b. before b a) refl (λ b m. refl) records k zeros l q) ∙ e))
 
 pub not_after_member : (records : List Deadline) (a b : Deadline) → Upto records (length records) a → Contains records b → before b a ≡ false
 not_after_member records a b h (k, l, e) = subst (λ r. before r a ≡ false) (get_or_default records k zeros b l ∙ e) (h k l)
