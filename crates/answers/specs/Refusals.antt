@@ -42,3 +42,12 @@ outcome_of (Err e) = refused (code e)
 abbrev pub placed_of : {A : Type 0} → Result A PlacedRefusal → Placed A
 placed_of (Ok a) = fine a
 placed_of (Err e) = refusal (code e.refusal) e.place
+
+-- the same under any number, that of a refusal or another
+abbrev pub numbered : {A : Type 0} → Result A ℕ → Outcome A
+numbered (Ok a) = accepted a
+numbered (Err n) = refused n
+
+abbrev pub numbered_at : {A : Type 0} → Result A (ℕ × ℕ) → Placed A
+numbered_at (Ok a) = fine a
+numbered_at (Err e) = refusal e.0 e.1

@@ -2,59 +2,45 @@
 // each as one line. The list in `stdin` and the replies in `stdout` come from the Rust alone
 // (compare/README.md), so a reply that differs from the Rust's fails the gate.
 //
-// A line is a function's name and its arguments in decimal, with one space before each. A line with
-// a number beyond i64, without a known name or of 4096 bytes or more is answered by 99, which is no
-// call's answer.
+// A line is a function's name and its arguments in decimal, with one space before each; `line` says
+// what other lines mean. A line with a number beyond i64 or without a known name is answered by 99,
+// which is no call's answer.
 #![tactic(auto)]
 
-mod arguments;
 mod calls;
+mod line;
 mod replies;
 
-use arguments::Arguments;
-use arrayvec::ArrayVec;
+use line::Line;
 use replay_lines::Lines;
-use replies::Reply;
 use std::io::{Stdout, Write};
 
-// A function's name, and its arguments.
-fn call_of(line: &ArrayVec<u8, 4096>) -> Option<(&str, Arguments)> {
-    if line.is_full() {
-        return None;
+// A byte below a space ends a line, byte 10 in a list. What follows the last such byte is no line.
+fn take(out: &mut Stdout, line: &mut Line, byte: u8) {
+    if byte > b' ' {
+        line.push(byte);
+        return;
     }
-    let line = str::from_utf8(line.as_slice()).ok()?;
-    let mut words = line.split(' ');
-    let name = words.next()?;
-    let mut arguments = Arguments::new();
-    for word in words {
-        // `parse` would take a plus.
-        if word.starts_with('+') {
-            return None;
-        }
-        arguments.push(word.parse().ok()?)?;
-    }
-    Some((name, arguments))
-}
-
-fn reply(line: &ArrayVec<u8, 4096>) -> Reply {
-    match call_of(line) {
-        Some((name, arguments)) => calls::answer(name, &arguments),
-        None => Reply::Unknown,
+    line.end_word();
+    if byte < b' ' {
+        // A reply that can't be written is lost, and the next is tried.
+        let _ = writeln!(out, "{}", line.reply());
+        line.begin();
     }
 }
 
-// A write that fails ends the program. Nothing says that the input ends, so the turns are counted up to a number that no run reaches.
-fn replay(out: &mut Stdout) -> std::io::Result<()> {
-    let mut lines = Lines::new();
+// Nothing says that the input ends, so the turns are counted up to a number that no run reaches.
+fn replay(out: &mut Stdout) {
+    let mut input = Lines::new();
+    let mut line = Line::new();
     for _ in 0..u64::MAX {
-        let Some(line) = lines.next() else {
-            return Ok(());
+        let Some(byte) = input.next_byte() else {
+            return;
         };
-        writeln!(out, "{}", reply(line))?;
+        take(out, &mut line, byte);
     }
-    Ok(())
 }
 
 fn main(rt: HostRuntime) {
-    let _ = replay(&mut rt.stdout());
+    replay(&mut rt.stdout());
 }

@@ -7,7 +7,7 @@ ghost use Rattle.std.specs.Prelude.{◌≡◌, ℕ, List, ◌+◌, ◌<◌, ◌�
 ghost use Rattle.std.proofs.Math.Seq.{slice};
 ghost use Rattle.primitive.specs.Text.{lowered};
 ghost use Rattle.answers.specs.Placed.{fine};
-ghost use Rattle.answers.specs.Refusals.{code, outcome_of, placed_of};
+ghost use Rattle.answers.specs.Refusals.{code, outcome_of, placed_of, numbered_at};
 ghost use Rattle.rules.specs.Rules.{empty, set_time, set_pure_year, set_pure_time, set_pure, set_item, rule_place, onward, add_item, relative_of, clock, set_hour, set_hour_and_minute};
 
 use answers::{PlacedRefusal, Refusal};
@@ -116,6 +116,25 @@ fn under_rules(
 {
     let builder = standing?;
     set_item(builder, digits, item).map_err(|refusal| refusal.at(rule_place(refusal, index)))
+}
+
+// The same where the first broken rule is held by its number and place. These stay, whatever numbers they are.
+#[tactic(auto, unfolding(rules::specs::Rules::add_item))]
+pub fn heed(
+    standing: Result<DateTimeBuilder, (u32, usize)>,
+    digits: &[u8],
+    item: Item,
+    index: usize,
+) -> Result<DateTimeBuilder, (u32, usize)>
+    ensures { numbered_at result ≡ add_item (lowered digits.now) index item (numbered_at standing) }
+{
+    match standing {
+        Ok(builder) => under_rules(Ok(builder), digits, item, index).map_err(|broken| (
+            u32::from(broken.refusal),
+            broken.place,
+        )),
+        Err(broken) => Err(broken),
+    }
 }
 
 // The place of a broken rule: the item's index, and 0 for a year that a pure number gives.

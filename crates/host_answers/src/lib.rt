@@ -7,7 +7,7 @@
 mod calls;
 
 ghost use Rattle.std.specs.Prelude.{◌≡◌};
-ghost use Rattle.answers.specs.Refusals.{outcome_of};
+ghost use Rattle.answers.specs.Refusals.{outcome_of, numbered};
 ghost use Rattle.host_answers.specs.Hosts.{record_answer, moment_answer, number_answer, board_answer};
 
 use answers::Refusal;
@@ -52,53 +52,66 @@ pub struct BoardAnswer {
     pub next: Deadline,
 }
 
+// The answers under any number, that of a refusal or another: number 0 and what a call gives, or the number and nothing beside it.
+#[tactic(auto, unfolding(crate::specs::Hosts::record_answer))]
+pub fn record_answer(made: Result<ExtendedDateTime, u32>) -> Answer
+    ensures { result ≡ record_answer (numbered made) }
+{
+    match made {
+        Ok(record) => Answer {
+            number: 0,
+            place: 0,
+            record,
+        },
+        Err(number) => Answer {
+            number,
+            place: 0,
+            record: ExtendedDateTime::blank(),
+        },
+    }
+}
+
+#[tactic(auto, unfolding(crate::specs::Hosts::moment_answer))]
+pub fn moment_answer(made: Result<i64, u32>) -> Moment
+    ensures { result ≡ moment_answer (numbered made) }
+{
+    match made {
+        Ok(seconds) => Moment { number: 0, seconds },
+        Err(number) => Moment { number, seconds: 0 },
+    }
+}
+
+#[tactic(auto, unfolding(crate::specs::Hosts::number_answer))]
+pub fn number_answer(made: Result<u32, u32>) -> Number
+    ensures { result ≡ number_answer (numbered made) }
+{
+    match made {
+        Ok(value) => Number { number: 0, value },
+        Err(number) => Number { number, value: 0 },
+    }
+}
+
 impl From<Result<ExtendedDateTime, Refusal>> for Answer {
     ghost from_gives = { λ made answer. answer ≡ record_answer (outcome_of made) };
 
-    #[tactic(auto, unfolding(crate::specs::Hosts::record_answer))]
     fn from(made: Result<ExtendedDateTime, Refusal>) -> Answer {
-        match made {
-            Ok(record) => Answer {
-                number: 0,
-                place: 0,
-                record,
-            },
-            Err(refusal) => Answer {
-                number: u32::from(refusal),
-                place: 0,
-                record: ExtendedDateTime::blank(),
-            },
-        }
+        record_answer(made.map_err(|refusal| u32::from(refusal)))
     }
 }
 
 impl From<Result<i64, Refusal>> for Moment {
     ghost from_gives = { λ made moment. moment ≡ moment_answer (outcome_of made) };
 
-    #[tactic(auto, unfolding(crate::specs::Hosts::moment_answer))]
     fn from(made: Result<i64, Refusal>) -> Moment {
-        match made {
-            Ok(seconds) => Moment { number: 0, seconds },
-            Err(refusal) => Moment {
-                number: u32::from(refusal),
-                seconds: 0,
-            },
-        }
+        moment_answer(made.map_err(|refusal| u32::from(refusal)))
     }
 }
 
 impl From<Result<u32, Refusal>> for Number {
     ghost from_gives = { λ made number. number ≡ number_answer (outcome_of made) };
 
-    #[tactic(auto, unfolding(crate::specs::Hosts::number_answer))]
     fn from(made: Result<u32, Refusal>) -> Number {
-        match made {
-            Ok(value) => Number { number: 0, value },
-            Err(refusal) => Number {
-                number: u32::from(refusal),
-                value: 0,
-            },
-        }
+        number_answer(made.map_err(|refusal| u32::from(refusal)))
     }
 }
 

@@ -64,7 +64,7 @@ le_by_lt a b = by (ltb b a) refl
     by true p = lt-leb a b (ltb-true b a p)
     by false p = le-leb a b (ltb-false b a p)
 
-le_z_by_lt_z : (a b : ℤ) → le_z a b ≡ not (lt_z b a)
+pub le_z_by_lt_z : (a b : ℤ) → le_z a b ≡ not (lt_z b a)
 le_z_by_lt_z (pos a) (pos b) = le_by_lt a b
 le_z_by_lt_z (pos a) (negsuc b) = refl
 le_z_by_lt_z (negsuc a) (pos b) = refl

@@ -23,19 +23,18 @@ fn reply(out: &mut Stdout, line: &[u8]) -> std::io::Result<()> {
     writeln!(out)
 }
 
-// A write that fails ends the program.
-fn replay(out: &mut Stdout) -> std::io::Result<()> {
+// What can't be written of a line is lost, and the next line is tried.
+fn replay(out: &mut Stdout) {
     let mut list = io::large_buffer();
     let n = io::read_full(0, &mut list);
     for line in list[..n].split_inclusive(|byte| *byte == b'\n') {
         // What follows the last byte 10 is no line.
         if let Some(line) = line.strip_suffix(b"\n") {
-            reply(out, line)?;
+            let _ = reply(out, line);
         }
     }
-    Ok(())
 }
 
 fn main(rt: HostRuntime) {
-    let _ = replay(&mut rt.stdout());
+    replay(&mut rt.stdout());
 }

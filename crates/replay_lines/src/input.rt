@@ -54,8 +54,8 @@ impl Lines {
         false
     }
 
-    // The next byte, unless the input ends.
-    fn next_byte(&mut self) -> Option<u8>
+    // The next byte, unless the input ends; for a program whose lines end otherwise.
+    pub fn next_byte(&mut self) -> Option<u8>
         ensures { self.new.line ≡ self.old.line }
     {
         if self.start >= self.end {

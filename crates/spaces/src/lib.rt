@@ -92,11 +92,14 @@ fn skip_space(s: &[u8], at: usize) -> usize
     i
 }
 
-// A comment, or a sign that is ignored.
-#[tactic(auto, unfolding(primitive::specs::Primitive::ignored))]
+// A comment, or a sign that is ignored. Where no parenthesis opens, a comment is not asked for: it is a call, and took a sign a third more time.
+#[tactic(auto, using(primitive::proofs::Spaces::spaces), unfolding(primitive::specs::Primitive::ignored, primitive::specs::Primitive::comment))]
 fn ignored(s: &[u8], at: usize) -> Option<usize>
     ensures { place_answer result ≡ ignored (lowered s.now) at }
 {
+    if primitive::byte(s, at, b'(').is_none() {
+        return ignored_hyphen_or_plus(s, at);
+    }
     comment(s, at).or_else(|| ignored_hyphen_or_plus(s, at))
 }
 
@@ -117,7 +120,7 @@ fn ignored_hyphen_or_plus(s: &[u8], at: usize) -> Option<usize>
 
 // A comment is between parentheses and may contain comments; one that is not closed is no comment. An inner comment is read in all bytes but
 // the last, since the outer one has still to close: so at most half of the bytes open comments in one another, and each takes one call.
-#[tactic(auto, using(primitive::proofs::Spaces::comments), unfolding(primitive::specs::Primitive::comment))]
+#[tactic(auto, using(primitive::proofs::Spaces::comments, primitive::proofs::Comments::inside_unclosed), unfolding(primitive::specs::Primitive::comment))]
 fn comment(s: &[u8], at: usize) -> Option<usize>
     ensures { place_answer result ≡ comment (lowered s.now) at }
 {
