@@ -32,8 +32,7 @@ fn widen(digits: usize, year: u64) -> u64
     year
 }
 
-// The digits of a year, after space. That the part is the bytes up to its end is unfolded so that a program that takes them by their places is
-// judged by them.
+// The digits of a year, after space. The tactic unfolds what a part is, so that a program that cuts the part out itself is judged by its bytes.
 #[tactic(auto, unfolding(dates::specs::Year::year_str, primitive::specs::Primitive::dec_uint_str, primitive::specs::Text::some))]
 pub fn year_str(s: &[u8], at: usize) -> Option<(&[u8], usize)>
     ensures { part_answer result ≡ year_str (lowered s.now) at }

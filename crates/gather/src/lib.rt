@@ -118,7 +118,7 @@ fn under_rules(
     set_item(builder, digits, item).map_err(|refusal| refusal.at(rule_place(refusal, index)))
 }
 
-// The same where the first broken rule is held by its number and place. These stay, whatever numbers they are.
+// The same where the first broken rule is given by its number and place, any number: they stay.
 #[tactic(auto, unfolding(rules::specs::Rules::add_item))]
 pub fn heed(
     standing: Result<DateTimeBuilder, (u32, usize)>,

@@ -92,7 +92,7 @@ fn skip_space(s: &[u8], at: usize) -> usize
     i
 }
 
-// A comment, or a sign that is ignored. Where no parenthesis opens, a comment is not asked for: it is a call, and took a sign a third more time.
+// A comment, or a sign that is ignored. Where no parenthesis opens, `comment` is not called: a call for each sign would cost a third more.
 #[tactic(auto, using(primitive::proofs::Spaces::spaces), unfolding(primitive::specs::Primitive::ignored, primitive::specs::Primitive::comment))]
 fn ignored(s: &[u8], at: usize) -> Option<usize>
     ensures { place_answer result ≡ ignored (lowered s.now) at }
