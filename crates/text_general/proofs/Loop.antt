@@ -114,6 +114,37 @@ module _ (s : List ℕ) (base : ExtendedDateTime) (count : ℕ) (p : Placed Date
         let l : less (64 - count) ≡ 64 - suc count = less_is (64 - count) ∙ omega arith in
         rw (add-one count, f, g) (rw (← e, l) at read)
 
+-- ---- after a broken rule, which stays
+
+-- the relative items don't matter
+broken_rest : (text : List ℕ) (base : ExtendedDateTime) (n place room i : ℕ) (rs ys : List Relative) (at : ℕ) → rest text base room i (refusal n place) rs at ≡ rest text base room i (refusal n place) ys at
+unfolding rest one built add_item
+broken_rest text base n place zero i rs ys at = refl
+broken_rest text base n place (suc room) i rs ys at = by (λ x m. broken_rest text base n place room (suc i) (rs ++ relative_of x) (ys ++ relative_of x) m) (ltb (space text at) (length text)) (parse_item text at)
+  where
+    by :
+        ((x : Item) (m : ℕ) → rest text base room (suc i) (refusal n place) (rs ++ relative_of x) m ≡ rest text base room (suc i) (refusal n place) (ys ++ relative_of x) m) →
+        (t : Bool) (a : Answer Item) →
+        cond t (one (suc room) a at >>= (λ q. rest text base room (suc i) (refusal n place) (rs ++ relative_of q.0) q.1)) (refusal n place)
+        ≡ cond t (one (suc room) a at >>= (λ q. rest text base room (suc i) (refusal n place) (ys ++ relative_of q.0) q.1)) (refusal n place)
+    by later false a = refl
+    by later true (matched x m) = later x m
+    by later true (dropped x m) = refl
+    by later true none = refl
+    by later true stop = refl
+
+module _ (s : List ℕ) (base : ExtendedDateTime) (count n place : ℕ) (rs : List Relative) (at : ℕ) (v : Placed ExtendedDateTime)
+    (inv : left (lowered s) base count (refusal n place) rs at ≡ v) (start : ℕ) (here : start ≡ space (lowered s) at) where
+  pub broken_end : length s ≤ start → refusal n place ≡ v
+  unfolding built
+  broken_end h = left_end s base count (refusal n place) rs at v inv start here h (refusal n place) refl
+
+  pub broken_next : start < length s → (x : Item) (m : ℕ) → fine (x, m) ≡ one (64 - count) (parse_item (lowered s) at) at → left (lowered s) base (count + 1) (refusal n place) rs m ≡ v
+  unfolding left add_item
+  broken_next h x m e =
+      broken_rest (lowered s) base n place (64 - (count + 1)) (count + 1) rs (rs ++ relative_of x) m
+      ∙ left_next s base count (refusal n place) rs at v inv start here h x m e (refusal n place) refl (rs ++ relative_of x) refl
+
 -- ---- the item that is tried
 
 module _ (text : List ℕ) (at count : ℕ) where

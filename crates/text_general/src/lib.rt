@@ -3,9 +3,12 @@
 
 #![tactic(auto)]
 
-ghost use Rattle.std.specs.Prelude.{◌≡◌, ◌-◌, ◌≤◌, length};
+ghost use Rattle.std.specs.Prelude.{◌≡◌, ◌-◌, ◌≤◌, List, length};
 ghost use Rattle.primitive.specs.Text.{lowered};
-ghost use Rattle.answers.specs.Refusals.{placed_of};
+ghost use Rattle.answers.specs.Placed.{refusal};
+ghost use Rattle.answers.specs.Refusals.{code, placed_of};
+ghost use Rattle.extended.specs.declared.ExtendedDateTime.{ExtendedDateTime};
+ghost use Rattle.relative.specs.declared.Relative.{Relative};
 ghost use Rattle.items.specs.Items.{parse_item};
 ghost use Rattle.text_general.specs.Reading.{build_text};
 ghost use Rattle.text_general.specs.Rest.{left, one};
@@ -58,6 +61,9 @@ fn build_rest(
     requires { (read ≤ 64) × (length first.now ≤ read) }
     ensures { placed_of result ≡ left (lowered text.now) base read (placed_of builder) first.now at }
 {
+    if let Err(broken) = builder {
+        return read_rest(text, broken, read, at);
+    }
     let mut gathered: Gathered<MOST_ITEMS> = Gathered::resume(builder, first);
     let mut count = read;
     let mut i = at;
@@ -68,6 +74,27 @@ fn build_rest(
         i = next;
     }
     builder::build(&gathered.builder, gathered.relatives.as_slice(), base)
+}
+
+// The same after a broken rule. It is the answer of a text that is read to its end, so that nothing is gathered, and no places are made.
+#[inline(never)]
+fn read_rest(
+    text: &[u8],
+    broken: PlacedRefusal,
+    read: usize,
+    at: usize,
+) -> Result<ExtendedDateTime, PlacedRefusal>
+    requires { read ≤ 64 }
+    ensures { (base : ExtendedDateTime) (rs : List Relative) → placed_of result ≡ left (lowered text.now) base read (refusal (code broken.refusal) broken.place) rs at }
+{
+    let mut count = read;
+    let mut i = at;
+    while spaces::space(text, i) < text.len() {
+        let (_, next) = item_at(text, i, count)?;
+        count += 1;
+        i = next;
+    }
+    Err(broken)
 }
 
 // The item at a place, where one is tried after `count` others: 1 if it is the 65th, 3 if no reader matches, 4 if one stops, and 22 if it lost
